@@ -1,0 +1,14 @@
+use borrow.Author.Needs.{needs}
+use Rattle.chars.proofs.Laws.{ors}
+use Rattle.chars.specs.Ascii.{isNumberByte}
+use Rattle.chars.proofs.is_number_byte.Statement.{statement}
+use Rattle.chars.proofs.is_number_byte.Tie as tie
+
+pub is-number-byte-spec : {M : Type 1} → statement M
+unfolding isNumberByte
+is-number-byte-spec =
+    tie.close
+    (tie.spec
+    (λ c κs. search needs)
+    (λ c. search ors)
+    (λ c. search ors))

@@ -1,0 +1,14 @@
+use borrow.Author.Needs.{needs}
+use Rattle.chars.proofs.Laws.{ors}
+use Rattle.chars.specs.Ascii.{isSpacedDigit}
+use Rattle.chars.proofs.is_spaced_digit.Statement.{statement}
+use Rattle.chars.proofs.is_spaced_digit.Tie as tie
+
+pub is-spaced-digit-spec : {M : Type 1} → statement M
+unfolding isSpacedDigit
+is-spaced-digit-spec =
+    tie.close
+    (tie.spec
+    (λ c κs. search needs)
+    (λ c. search ors)
+    (λ c. search ors))

@@ -1,0 +1,13 @@
+use borrow.Author.Needs.{needs}
+use borrow.Author.Tests.{lt-leb, le-leb}
+use Rattle.chars.specs.Ascii.{isWithin}
+use Rattle.chars.proofs.within.Statement.{statement}
+use Rattle.chars.proofs.within.Tie as tie
+
+pub within-spec : {M : Type 1} → statement M
+unfolding isWithin
+within-spec =
+    tie.close
+    (tie.spec
+    (λ c. rw (lt-leb _ _ (c .if1 .taken)))
+    (λ c. rw (le-leb _ _ (c .if1 .left))))

@@ -1,0 +1,4 @@
+pub mod Choice
+pub mod Ascii
+pub mod Run
+pub mod Same

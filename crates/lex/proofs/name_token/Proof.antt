@@ -1,0 +1,16 @@
+use borrow.Author.Needs.{needs}
+use Rattle.lex.proofs.Tokens.{name-token}
+use Rattle.chars.proofs.Laws.{run-low, run-high}
+use Rattle.lex.proofs.name_token.Statement.{statement}
+use Rattle.lex.proofs.name_token.Tie as tie
+
+pub name-token-spec : {M : Type 1} → statement M
+name-token-spec =
+    tie.close
+    (tie.spec
+    (λ c κs. search needs)
+    (λ c. search run-low)
+    (λ c. search (needs, run-low))
+    (λ c. search (needs, run-high))
+    (λ c κs. search needs)
+    (λ c. search name-token))

@@ -1,0 +1,14 @@
+use borrow.Author.Needs.{needs}
+use Rattle.lex.proofs.number_word.Statement.{statement}
+use Rattle.lex.proofs.number_word.Tie as tie
+
+pub number-word-spec : {M : Type 1} → statement M
+number-word-spec =
+    tie.close
+    (tie.spec
+    (λ c. search needs)
+    (λ c. search needs)
+    (λ c. search needs)
+    (λ c. rw (c .before .number .given .1))
+    (λ c. rw (c .enum-told .given .1))
+    (λ c. rw (c .enum-told2 .given .1)))

@@ -1,0 +1,6 @@
+pub mod Limits
+pub mod Blank
+pub mod Quote
+pub mod Token
+pub mod Spelt
+pub mod Words

@@ -1,0 +1,13 @@
+use borrow.Author.Needs.{needs}
+use Rattle.numbers.proofs.Laws.{fit-all, fit-yes, fit-no}
+use Rattle.numbers.proofs.fit.Statement.{statement}
+use Rattle.numbers.proofs.fit.Tie as tie
+
+pub fit-spec : {M : Type 1} → statement M
+fit-spec =
+    tie.close
+    (tie.spec
+    (λ c. search (needs, fit-all))
+    (λ c. search needs)
+    (λ c. search fit-yes)
+    (λ c. search fit-no))

@@ -1,0 +1,15 @@
+use borrow.Author.Needs.{needs}
+use Rattle.numbers.proofs.Laws.{radix-none}
+use Rattle.numbers.specs.Number.{radixOf}
+use Rattle.numbers.proofs.radix_of.Statement.{statement}
+use Rattle.numbers.proofs.radix_of.Tie as tie
+
+pub radix-of-spec : {M : Type 1} → statement M
+unfolding radixOf
+radix-of-spec =
+    tie.close
+    (tie.spec
+    (λ c. rw (c .match .keys1))
+    (λ c. rw (c .match .keys2))
+    (λ c. rw (c .match .keys3))
+    (λ c. radix-none _ (c .match .rest .0 .0 .1) (c .match .rest .0 .1) (c .match .rest .1)))

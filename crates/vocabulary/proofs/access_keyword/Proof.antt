@@ -1,0 +1,24 @@
+use borrow.Author.Needs.{needs}
+use Rattle.vocabulary.proofs.Laws.{entries}
+use Rattle.vocabulary.proofs.access_keyword.Statement.{statement}
+use Rattle.vocabulary.proofs.access_keyword.Tie as tie
+
+pub access-keyword-spec : {M : Type 1} → statement M
+access-keyword-spec =
+    tie.close
+    (tie.spec
+    (λ c. search needs)
+    (λ c κs. search needs)
+    (λ c. search needs)
+    (λ c κs. search needs)
+    (λ c. search needs)
+    (λ c κs. search needs)
+    (λ c. search needs)
+    (λ c κs. search needs)
+    (λ c. search needs)
+    (λ c κs. search needs)
+    (λ c. search needs)
+    (λ c κs. search needs)
+    (λ c. search needs)
+    (λ c κs. search needs)
+    (λ c. search entries depth 9))

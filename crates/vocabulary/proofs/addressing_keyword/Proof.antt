@@ -1,0 +1,16 @@
+use borrow.Author.Needs.{needs}
+use Rattle.vocabulary.proofs.Laws.{entries}
+use Rattle.vocabulary.proofs.addressing_keyword.Statement.{statement}
+use Rattle.vocabulary.proofs.addressing_keyword.Tie as tie
+
+pub addressing-keyword-spec : {M : Type 1} → statement M
+addressing-keyword-spec =
+    tie.close
+    (tie.spec
+    (λ c. search needs)
+    (λ c κs. search needs)
+    (λ c. search needs)
+    (λ c κs. search needs)
+    (λ c. search needs)
+    (λ c κs. search needs)
+    (λ c. search entries depth 5))
