@@ -246,13 +246,18 @@ def long_texts():
 GROUPS = [classroom, bytes_after, keyword_words, names, numbers, strings, comments, marks, order, long_texts]
 
 
+def write_cases(program, groups, answer):
+    """Writes a program's stdin and the stdout that is due for it; `answer` gives all of a case's line but its number."""
+    cases = [text for group in groups for text in group()]
+    crate = pathlib.Path(__file__).resolve().parent.parent / "crates" / program
+    (crate / "stdin").write_bytes(b"".join(struct.pack("<I", len(text)) + text for text in cases))
+    (crate / "stdout").write_bytes(b"".join(b"%d" % number + answer(text) + b"\n" for number, text in enumerate(cases)))
+
+
 def main():
     if hasattr(sys, "set_int_max_str_digits"):
         sys.set_int_max_str_digits(0)
-    cases = [text for group in GROUPS for text in group()]
-    crate = pathlib.Path(__file__).resolve().parent.parent / "crates" / "word_cases"
-    (crate / "stdin").write_bytes(b"".join(struct.pack("<I", len(text)) + text for text in cases))
-    (crate / "stdout").write_bytes(b"".join(b"%d" % number + answer(text) + b"\n" for number, text in enumerate(cases)))
+    write_cases("word_cases", GROUPS, answer)
 
 
 if __name__ == "__main__":

@@ -5,7 +5,8 @@ use mathlib.Core.List.{List, [], _∷_}
 use Prim.Native.Nat.{ℕ, suc, min, _+_, _-_, _<_, _≤_}
 use native.Mathlib.Omega.{arith}
 use lib.Dec.{ltb, eqb}
-use lib.ListN.{length, take, drop, length-drop, length-take}
+use lib.ListN.{length, take, drop, drop-of-length-le, length-drop, length-take}
+use borrow.Author.Tests.{ltb-true, ltb-false}
 use Rattle.chars.specs.Choice.{if_then_else_}
 use Rattle.chars.specs.Ascii.{isBlank, isLineEnd, isLetter, isNameByte, isNumberByte, isDigit}
 use Rattle.chars.specs.Run.{run}
@@ -215,3 +216,16 @@ past-moves t at high (Unclosed o) f l n = omega (arith, length-drop at t)
 pub token-moves : (t : List ℕ) (at : ℕ) → (tokenAt t at .word ≡ word.End → ⊥) → at < tokenAt t at .end
 unfolding tokenAt nextFrom
 token-moves t at = past-moves t at (at + length (drop at t)) (nextFrom t at) (blanks-found at (drop at t)) (omega arith)
+
+-- past the text there is only its end
+past-end : (t : List ℕ) (at : ℕ) → length t ≤ at → tokenAt t at .word ≡ word.End
+unfolding tokenAt nextFrom blanks tokenFrom
+past-end t at h = rw (drop-of-length-le t h, drop-of-length-le t h)
+
+-- a token that isn't the end moves the cursor on, within the text
+pub token-inside : (t : List ℕ) (at : ℕ) → (tokenAt t at .word ≡ word.End → ⊥) → (at < tokenAt t at .end) × (tokenAt t at .end ≤ length t)
+token-inside t at n = (token-moves t at n, below (ltb at (length t)) refl)
+  where
+    below : (r : Bool) → ltb at (length t) ≡ r → tokenAt t at .end ≤ length t
+    below true e = token-within t at (omega (arith, ltb-true at (length t) e)) .inside
+    below false e = absurd (n (past-end t at (ltb-false at (length t) e)))

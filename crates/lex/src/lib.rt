@@ -320,7 +320,7 @@ fn cause_number(cause: Cause) -> u8
 }
 
 // A refusal with its number at a place.
-fn refuse(number: u8, at: usize) -> Verdict
+pub fn refuse(number: u8, at: usize) -> Verdict
     ensures { λ r. ⌜ r ≡ refused number at ⌝ }
 {
     Verdict::Refused(number, Place { at })

@@ -2,33 +2,13 @@
 // first tokens, how many there are up to the end or a bad word, and the first refusal. tests/word_cases.py makes the cases.
 use lex::Cause;
 use lex::Token;
-use lex::Verdict;
 use lex::Word;
-use libc::STDIN_FILENO;
-use libc::STDOUT_FILENO;
-ghost use Prim.Native.Nat.{_<_};
-
-const LONGEST_TEXT: usize = 65537;
-
-const MOST_CASES: u64 = 1000000;
+use testing::LONGEST_TEXT;
+use testing::MOST_CASES;
+use testing::put;
+use testing::put_number;
 
 const SHOWN_TOKENS: usize = 12;
-
-// The length of the next case's text, if there is a case.
-enum Header {
-    Length(usize),
-    Missing,
-}
-
-fn put(bytes: &[u8]) {
-    io::write_all(STDOUT_FILENO, bytes);
-}
-
-// A label, then a number.
-fn put_number(label: &[u8], n: u64) {
-    put(label);
-    io::print_decimal(STDOUT_FILENO, n);
-}
 
 // A label, then the bytes of a word.
 fn put_spelling(label: &[u8], spelling: &[u8]) {
@@ -108,61 +88,21 @@ fn show_tokens(text: &[u8]) -> usize {
     count
 }
 
-fn show_verdict(verdict: Verdict) {
-    match verdict {
-        Verdict::Accepted => put(b" accepted\n"),
-        Verdict::Refused(number, place) => {
-            put_number(b" refused=", number as u64);
-            put_number(b" at=", place.at as u64);
-            put(b"\n");
-        }
-    }
-}
-
 fn show_case(case: u64, text: &[u8]) {
     put_number(b"", case);
     let count = show_tokens(text);
     put_number(b" tokens=", count as u64);
-    show_verdict(lex::first_refusal(text));
-}
-
-fn wide(b: u8) -> usize
-    ensures { λ r. ⌜ r < 256 ⌝ }
-{
-    b as usize
-}
-
-fn read_header() -> Header {
-    let mut bytes = [0u8; 4];
-    if io::read_full(STDIN_FILENO, &mut bytes) < 4 {
-        return Header::Missing;
-    }
-    Header::Length(
-        wide(bytes[0]) + 256 * (wide(bytes[1]) + 256 * (wide(bytes[2]) + 256 * wide(bytes[3]))),
-    )
-}
-
-// Reads a text of the slice's length into it and shows it; answers whether it was there.
-fn run_text(case: u64, text: &mut [u8]) -> bool {
-    let got = io::read_full(STDIN_FILENO, text);
-    if got < text.len() {
-        return false;
-    }
-    show_case(case, text);
-    true
+    testing::put_verdict(lex::first_refusal(text));
 }
 
 // Runs the next case; answers whether there was one.
 fn run_case(case: u64, room: &mut [u8]) -> bool {
-    match read_header() {
-        Header::Length(length) => {
-            if length > room.len() {
-                return false;
-            }
-            run_text(case, &mut room[..length])
-        }
-        Header::Missing => false,
+    let text = testing::read_text(room);
+    let length = text.length;
+    if text.whole {
+        show_case(case, &room[..length]);
     }
+    text.whole
 }
 
 fn main() {

@@ -1,0 +1,13 @@
+use borrow.Author.Needs.{needs}
+use Rattle.parts.proofs.Laws.{closed-yes, closed-no}
+use Rattle.parts.proofs.close_array.Statement.{statement}
+use Rattle.parts.proofs.close_array.Tie as tie
+
+pub close-array-spec : {M : Type 1} → statement M
+close-array-spec =
+    tie.close
+    (tie.spec
+    (λ c κs. search needs)
+    (λ c κs. search needs)
+    (λ c. search closed-yes)
+    (λ c. search closed-no))

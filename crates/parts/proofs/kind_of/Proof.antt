@@ -1,0 +1,26 @@
+use borrow.Author.Needs.{needs}
+use Rattle.parts.specs.Words.{kindOf}
+use Rattle.parts.proofs.kind_of.Statement.{statement}
+use Rattle.parts.proofs.kind_of.Tie as tie
+
+pub kind-of-spec : {M : Type 1} → statement M
+unfolding kindOf
+kind-of-spec =
+    tie.close
+    (tie.spec
+    (λ c. search needs)
+    (λ c. search needs)
+    (λ c. search needs)
+    (λ c κs. search needs)
+    (λ c κs. search needs)
+    (λ c. search needs)
+    (λ c. search needs)
+    (λ c. search needs)
+    (λ c. search needs)
+    (λ c. rw (c .enum-told .given .1))
+    (λ c. rw (c .enum-told2 .given .1))
+    (λ c. rw (c .before .before .before .word .given .1, ← c .before .role-of .ensures) (c .role-kind .ensures))
+    (λ c. rw (c .enum-told3 .given .1))
+    (λ c. rw (c .enum-told4 .given .1))
+    (λ c. rw (c .enum-told5 .given .1))
+    (λ c. rw (c .enum-told6 .given .1)))

@@ -1,0 +1,781 @@
+// The parts of sentences: names, numbers, suffixes, instances, values, property statements and the headers of definitions.
+// Each reader answers what stands at a cursor with the cursor past it, or the place at which no sentence continues.
+use lex::Token;
+use lex::Word;
+use vocabulary::Keyword;
+use vocabulary::Mark;
+ghost use mathlib.Core.Path.{_≡_};
+ghost use Rattle.parts.specs.Reading.{mapped};
+ghost use Rattle.parts.specs.Words.{roleOf, roleKind, roleDefault, roleProperty, roleValue, isName, kindOf, isKind, isDefault, isProperty, markNumber, isMark, isEnd};
+ghost use Rattle.parts.specs.Parts.{closedBy, nameAt, numberAt, arrayRestAt, arrayAt, suffixMark, suffixAt, bare, setSuffix, withSuffix, bareAt, instanceAt, partedAt, listedAt, valueIn, valueAt, property, settingAt, propertyWordAt, propertyAt, headerRestAt, headerAt, isNamed, startsInstances};
+ghost use Rattle.parts.specs.Answers.{nameRead, numberRead, arrayRead, suffixRead, instanceRead, listedRead, valueRead, propertyRead, headerRead};
+
+// The kinds of component.
+pub enum Kind {
+    Addrmap,
+    Regfile,
+    Reg,
+    Field,
+}
+
+// What a kept keyword may be in a sentence.
+pub enum Role {
+    Kind(Kind),
+    Default,
+    Property,
+    PropertyOrValue,
+    Value,
+}
+
+pub enum KindLookup {
+    IsKind(Kind),
+    NoKind,
+}
+
+// A name, from its first byte to past its last.
+pub struct Name {
+    pub start: usize,
+    pub end: usize,
+}
+
+pub enum NameReading {
+    Done(Name, usize),
+    Stop(usize),
+}
+
+// A number and its place.
+pub struct Number {
+    pub value: u64,
+    pub place: usize,
+}
+
+pub enum NumberReading {
+    Done(Number, usize),
+    Stop(usize),
+}
+
+// `[n]` or `[left:right]`, with the place of its first mark.
+pub enum Array {
+    Missing,
+    Size(usize, Number),
+    Range(usize, Number, Number),
+}
+
+pub enum ArrayReading {
+    Done(Array, usize),
+    Stop(usize),
+}
+
+// A mark and a number, with the mark's place.
+pub enum Suffix {
+    Missing,
+    Given(usize, Number),
+}
+
+// The suffixes behind an array, in their order: `= n`, `@ n`, `+= n`, `%= n`.
+pub enum SuffixKind {
+    Reset,
+    Address,
+    Stride,
+    Alignment,
+}
+
+pub enum SuffixReading {
+    Done(Suffix, usize),
+    Stop(usize),
+}
+
+// An instance with its suffixes.
+pub struct Instance {
+    pub name: Name,
+    pub array: Array,
+    pub reset: Suffix,
+    pub address: Suffix,
+    pub stride: Suffix,
+    pub alignment: Suffix,
+}
+
+pub enum InstanceReading {
+    Done(Instance, usize),
+    Stop(usize),
+}
+
+// An instance of a list, and whether it is the list's last.
+pub struct Listed {
+    pub instance: Instance,
+    pub last: bool,
+}
+
+pub enum ListedReading {
+    Done(Listed, usize),
+    Stop(usize),
+}
+
+// A property's value, with its place; Missing where the property stands alone.
+pub enum Value {
+    Missing,
+    Number(Number),
+    String(usize),
+    Word(Keyword, usize),
+}
+
+pub enum ValueLookup {
+    IsValue(Value),
+    NoValue,
+}
+
+pub enum ValueReading {
+    Done(Value, usize),
+    Stop(usize),
+}
+
+// A property statement: whether it is a default, the property word's place and end, and the value.
+pub struct Property {
+    pub defaulted: bool,
+    pub start: usize,
+    pub end: usize,
+    pub value: Value,
+}
+
+pub enum PropertyReading {
+    Done(Property, usize),
+    Stop(usize),
+}
+
+// The name of a definition, if it has one.
+pub enum DefinedName {
+    Unnamed,
+    Named(Name),
+}
+
+// The head of a definition: its kind, the kind word's place, its name, and its opening brace's place.
+pub struct Header {
+    pub kind: Kind,
+    pub place: usize,
+    pub name: DefinedName,
+    pub brace: usize,
+}
+
+pub enum HeaderReading {
+    Done(Header, usize),
+    Stop(usize),
+}
+
+fn role_of(keyword: Keyword) -> Role
+    ensures { λ r. ⌜ r ≡ roleOf keyword ⌝ }
+{
+    match keyword {
+        Keyword::Addrmap => Role::Kind(Kind::Addrmap),
+        Keyword::Regfile => Role::Kind(Kind::Regfile),
+        Keyword::Reg => Role::Kind(Kind::Reg),
+        Keyword::Field => Role::Kind(Kind::Field),
+        Keyword::Default => Role::Default,
+        Keyword::Sw => Role::Property,
+        Keyword::Hw => Role::Property,
+        Keyword::Rclr => Role::PropertyOrValue,
+        Keyword::Rset => Role::PropertyOrValue,
+        Keyword::Woclr => Role::PropertyOrValue,
+        Keyword::Woset => Role::PropertyOrValue,
+        Keyword::True => Role::Value,
+        Keyword::False => Role::Value,
+        Keyword::Na => Role::Value,
+        Keyword::Rw => Role::Value,
+        Keyword::Wr => Role::Value,
+        Keyword::R => Role::Value,
+        Keyword::W => Role::Value,
+        Keyword::Wot => Role::Value,
+        Keyword::Wzs => Role::Value,
+        Keyword::Wzc => Role::Value,
+        Keyword::Wzt => Role::Value,
+        Keyword::Wclr => Role::Value,
+        Keyword::Wset => Role::Value,
+        Keyword::Compact => Role::Value,
+        Keyword::Regalign => Role::Value,
+        Keyword::Fullalign => Role::Value,
+    }
+}
+
+fn role_kind(role: Role) -> KindLookup
+    ensures { λ r. ⌜ r ≡ roleKind role ⌝ }
+{
+    match role {
+        Role::Kind(kind) => KindLookup::IsKind(kind),
+        Role::Default => KindLookup::NoKind,
+        Role::Property => KindLookup::NoKind,
+        Role::PropertyOrValue => KindLookup::NoKind,
+        Role::Value => KindLookup::NoKind,
+    }
+}
+
+fn role_default(role: Role) -> bool
+    ensures { λ r. ⌜ r ≡ roleDefault role ⌝ }
+{
+    match role {
+        Role::Kind(_) => false,
+        Role::Default => true,
+        Role::Property => false,
+        Role::PropertyOrValue => false,
+        Role::Value => false,
+    }
+}
+
+fn role_property(role: Role) -> bool
+    ensures { λ r. ⌜ r ≡ roleProperty role ⌝ }
+{
+    match role {
+        Role::Kind(_) => false,
+        Role::Default => false,
+        Role::Property => true,
+        Role::PropertyOrValue => true,
+        Role::Value => false,
+    }
+}
+
+fn role_value(role: Role) -> bool
+    ensures { λ r. ⌜ r ≡ roleValue role ⌝ }
+{
+    match role {
+        Role::Kind(_) => false,
+        Role::Default => false,
+        Role::Property => false,
+        Role::PropertyOrValue => true,
+        Role::Value => true,
+    }
+}
+
+pub fn is_name(word: Word) -> bool
+    ensures { λ r. ⌜ r ≡ isName word ⌝ }
+{
+    match word {
+        Word::End => false,
+        Word::Name => true,
+        Word::Keyword(_) => false,
+        Word::Number(_) => false,
+        Word::String => false,
+        Word::Mark(_) => false,
+        Word::Bad(_) => false,
+    }
+}
+
+pub fn kind_of(word: Word) -> KindLookup
+    ensures { λ r. ⌜ r ≡ kindOf word ⌝ }
+{
+    match word {
+        Word::End => KindLookup::NoKind,
+        Word::Name => KindLookup::NoKind,
+        Word::Keyword(keyword) => role_kind(role_of(keyword)),
+        Word::Number(_) => KindLookup::NoKind,
+        Word::String => KindLookup::NoKind,
+        Word::Mark(_) => KindLookup::NoKind,
+        Word::Bad(_) => KindLookup::NoKind,
+    }
+}
+
+pub fn is_kind(word: Word) -> bool
+    ensures { λ r. ⌜ r ≡ isKind word ⌝ }
+{
+    match kind_of(word) {
+        KindLookup::IsKind(_) => true,
+        KindLookup::NoKind => false,
+    }
+}
+
+pub fn is_default(word: Word) -> bool
+    ensures { λ r. ⌜ r ≡ isDefault word ⌝ }
+{
+    match word {
+        Word::End => false,
+        Word::Name => false,
+        Word::Keyword(keyword) => role_default(role_of(keyword)),
+        Word::Number(_) => false,
+        Word::String => false,
+        Word::Mark(_) => false,
+        Word::Bad(_) => false,
+    }
+}
+
+pub fn is_property(word: Word) -> bool
+    ensures { λ r. ⌜ r ≡ isProperty word ⌝ }
+{
+    match word {
+        Word::End => false,
+        Word::Name => true,
+        Word::Keyword(keyword) => role_property(role_of(keyword)),
+        Word::Number(_) => false,
+        Word::String => false,
+        Word::Mark(_) => false,
+        Word::Bad(_) => false,
+    }
+}
+
+fn mark_number(mark: Mark) -> u8
+    ensures { λ r. ⌜ r ≡ markNumber mark ⌝ }
+{
+    match mark {
+        Mark::OpenBrace => 0,
+        Mark::CloseBrace => 1,
+        Mark::OpenBracket => 2,
+        Mark::CloseBracket => 3,
+        Mark::Semicolon => 4,
+        Mark::Colon => 5,
+        Mark::Comma => 6,
+        Mark::Equals => 7,
+        Mark::At => 8,
+        Mark::PlusEquals => 9,
+        Mark::PercentEquals => 10,
+    }
+}
+
+pub fn is_mark(word: Word, mark: Mark) -> bool
+    ensures { λ r. ⌜ r ≡ isMark mark word ⌝ }
+{
+    match word {
+        Word::End => false,
+        Word::Name => false,
+        Word::Keyword(_) => false,
+        Word::Number(_) => false,
+        Word::String => false,
+        Word::Mark(found) => mark_number(found) == mark_number(mark),
+        Word::Bad(_) => false,
+    }
+}
+
+pub fn is_end(word: Word) -> bool
+    ensures { λ r. ⌜ r ≡ isEnd word ⌝ }
+{
+    match word {
+        Word::End => true,
+        Word::Name => false,
+        Word::Keyword(_) => false,
+        Word::Number(_) => false,
+        Word::String => false,
+        Word::Mark(_) => false,
+        Word::Bad(_) => false,
+    }
+}
+
+// A name.
+pub fn read_name(text: &[u8], at: usize) -> NameReading
+    ensures { λ r. ⌜ nameRead r ≡ nameAt (now (text .entry)) at ⌝ }
+{
+    let token = lex::next_token(text, at);
+    let word = token.word;
+    if is_name(word) {
+        let name = Name {
+            start: token.start,
+            end: token.end,
+        };
+        return NameReading::Done(name, token.end);
+    }
+    NameReading::Stop(token.start)
+}
+
+// A number.
+pub fn read_number(text: &[u8], at: usize) -> NumberReading
+    ensures { λ r. ⌜ numberRead r ≡ numberAt (now (text .entry)) at ⌝ }
+{
+    let token = lex::next_token(text, at);
+    let word = token.word;
+    let Word::Number(value) = word else {
+        return NumberReading::Stop(token.start);
+    };
+    let number = Number {
+        value,
+        place: token.start,
+    };
+    NumberReading::Done(number, token.end)
+}
+
+// The closing bracket behind an array's numbers.
+fn close_array(text: &[u8], at: usize, array: Array) -> ArrayReading
+    ensures { λ r. ⌜ arrayRead r ≡ closedBy Mark.CloseBracket array (now (text .entry)) at ⌝ }
+{
+    let token = lex::next_token(text, at);
+    let word = token.word;
+    if is_mark(word, Mark::CloseBracket) {
+        return ArrayReading::Done(array, token.end);
+    }
+    ArrayReading::Stop(token.start)
+}
+
+// What follows the first number of an array whose bracket stands at `bracket`.
+fn read_array_rest(text: &[u8], at: usize, bracket: usize, left: Number) -> ArrayReading
+    ensures { λ r. ⌜ arrayRead r ≡ arrayRestAt bracket left (now (text .entry)) at ⌝ }
+{
+    let token = lex::next_token(text, at);
+    let word = token.word;
+    if is_mark(word, Mark::CloseBracket) {
+        return ArrayReading::Done(Array::Size(bracket, left), token.end);
+    }
+    if !is_mark(word, Mark::Colon) {
+        return ArrayReading::Stop(token.start);
+    }
+    match read_number(text, token.end) {
+        NumberReading::Done(right, next) => {
+            close_array(text, next, Array::Range(bracket, left, right))
+        }
+        NumberReading::Stop(place) => ArrayReading::Stop(place),
+    }
+}
+
+// `[n]`, `[left:right]` or neither.
+pub fn read_array(text: &[u8], at: usize) -> ArrayReading
+    ensures { λ r. ⌜ arrayRead r ≡ arrayAt (now (text .entry)) at ⌝ }
+{
+    let token = lex::next_token(text, at);
+    let word = token.word;
+    if !is_mark(word, Mark::OpenBracket) {
+        return ArrayReading::Done(Array::Missing, at);
+    }
+    match read_number(text, token.end) {
+        NumberReading::Done(left, next) => read_array_rest(text, next, token.start, left),
+        NumberReading::Stop(place) => ArrayReading::Stop(place),
+    }
+}
+
+fn suffix_mark(kind: SuffixKind) -> Mark
+    ensures { λ r. ⌜ r ≡ suffixMark kind ⌝ }
+{
+    match kind {
+        SuffixKind::Reset => Mark::Equals,
+        SuffixKind::Address => Mark::At,
+        SuffixKind::Stride => Mark::PlusEquals,
+        SuffixKind::Alignment => Mark::PercentEquals,
+    }
+}
+
+// A suffix of one kind, or none.
+pub fn read_suffix(text: &[u8], at: usize, kind: SuffixKind) -> SuffixReading
+    ensures { λ r. ⌜ suffixRead r ≡ suffixAt kind (now (text .entry)) at ⌝ }
+{
+    let token = lex::next_token(text, at);
+    let word = token.word;
+    if !is_mark(word, suffix_mark(kind)) {
+        return SuffixReading::Done(Suffix::Missing, at);
+    }
+    match read_number(text, token.end) {
+        NumberReading::Done(number, next) => {
+            SuffixReading::Done(Suffix::Given(token.start, number), next)
+        }
+        NumberReading::Stop(place) => SuffixReading::Stop(place),
+    }
+}
+
+// An instance with one suffix set.
+fn set_suffix(kind: SuffixKind, suffix: Suffix, instance: Instance) -> Instance
+    ensures { λ r. ⌜ r ≡ setSuffix kind suffix instance ⌝ }
+{
+    let name = instance.name;
+    let array = instance.array;
+    let reset = instance.reset;
+    let address = instance.address;
+    let stride = instance.stride;
+    let alignment = instance.alignment;
+    match kind {
+        SuffixKind::Reset => Instance {
+            name,
+            array,
+            reset: suffix,
+            address,
+            stride,
+            alignment,
+        },
+        SuffixKind::Address => Instance {
+            name,
+            array,
+            reset,
+            address: suffix,
+            stride,
+            alignment,
+        },
+        SuffixKind::Stride => Instance {
+            name,
+            array,
+            reset,
+            address,
+            stride: suffix,
+            alignment,
+        },
+        SuffixKind::Alignment => Instance {
+            name,
+            array,
+            reset,
+            address,
+            stride,
+            alignment: suffix,
+        },
+    }
+}
+
+// An instance and one suffix more.
+fn add_suffix(text: &[u8], at: usize, kind: SuffixKind, instance: Instance) -> InstanceReading
+    ensures { λ r. ⌜ instanceRead r ≡ mapped (λ s. setSuffix kind s instance) (suffixAt kind (now (text .entry)) at) ⌝ }
+{
+    match read_suffix(text, at, kind) {
+        SuffixReading::Done(suffix, next) => {
+            InstanceReading::Done(set_suffix(kind, suffix, instance), next)
+        }
+        SuffixReading::Stop(place) => InstanceReading::Stop(place),
+    }
+}
+
+// An instance that was read, if it was, and one suffix more.
+fn with_suffix(text: &[u8], kind: SuffixKind, earlier: InstanceReading) -> InstanceReading
+    ensures { λ r. ⌜ instanceRead r ≡ withSuffix kind (now (text .entry)) (instanceRead earlier) ⌝ }
+{
+    match earlier {
+        InstanceReading::Done(instance, next) => add_suffix(text, next, kind, instance),
+        InstanceReading::Stop(place) => InstanceReading::Stop(place),
+    }
+}
+
+// A name and what follows it as an array.
+fn read_bare(text: &[u8], at: usize) -> InstanceReading
+    ensures { λ r. ⌜ instanceRead r ≡ bareAt (now (text .entry)) at ⌝ }
+{
+    match read_name(text, at) {
+        NameReading::Done(name, next) => bare_instance(text, next, name),
+        NameReading::Stop(place) => InstanceReading::Stop(place),
+    }
+}
+
+fn bare_instance(text: &[u8], at: usize, name: Name) -> InstanceReading
+    ensures { λ r. ⌜ instanceRead r ≡ mapped (bare name) (arrayAt (now (text .entry)) at) ⌝ }
+{
+    match read_array(text, at) {
+        ArrayReading::Done(array, next) => {
+            let instance = Instance {
+                name,
+                array,
+                reset: Suffix::Missing,
+                address: Suffix::Missing,
+                stride: Suffix::Missing,
+                alignment: Suffix::Missing,
+            };
+            InstanceReading::Done(instance, next)
+        }
+        ArrayReading::Stop(place) => InstanceReading::Stop(place),
+    }
+}
+
+// An instance: a name, then its suffixes in order.
+pub fn read_instance(text: &[u8], at: usize) -> InstanceReading
+    ensures { λ r. ⌜ instanceRead r ≡ instanceAt (now (text .entry)) at ⌝ }
+{
+    let bare = read_bare(text, at);
+    let reset = with_suffix(text, SuffixKind::Reset, bare);
+    let address = with_suffix(text, SuffixKind::Address, reset);
+    let stride = with_suffix(text, SuffixKind::Stride, address);
+    with_suffix(text, SuffixKind::Alignment, stride)
+}
+
+// The mark behind an instance of a list.
+fn read_parted(text: &[u8], at: usize, instance: Instance) -> ListedReading
+    ensures { λ r. ⌜ listedRead r ≡ partedAt instance (now (text .entry)) at ⌝ }
+{
+    let token = lex::next_token(text, at);
+    let word = token.word;
+    if is_mark(word, Mark::Semicolon) {
+        let listed = Listed {
+            instance,
+            last: true,
+        };
+        return ListedReading::Done(listed, token.end);
+    }
+    if is_mark(word, Mark::Comma) {
+        let listed = Listed {
+            instance,
+            last: false,
+        };
+        return ListedReading::Done(listed, token.end);
+    }
+    ListedReading::Stop(token.start)
+}
+
+// An instance of a list, with the comma or semicolon behind it.
+pub fn read_listed(text: &[u8], at: usize) -> ListedReading
+    ensures { λ r. ⌜ listedRead r ≡ listedAt (now (text .entry)) at ⌝ }
+{
+    match read_instance(text, at) {
+        InstanceReading::Done(instance, next) => read_parted(text, next, instance),
+        InstanceReading::Stop(place) => ListedReading::Stop(place),
+    }
+}
+
+// A string or a word of the value lists.
+fn value_in(word: Word, place: usize) -> ValueLookup
+    ensures { λ r. ⌜ r ≡ valueIn word place ⌝ }
+{
+    match word {
+        Word::End => ValueLookup::NoValue,
+        Word::Name => ValueLookup::NoValue,
+        Word::Keyword(keyword) => keyword_value(keyword, place),
+        Word::Number(_) => ValueLookup::NoValue,
+        Word::String => ValueLookup::IsValue(Value::String(place)),
+        Word::Mark(_) => ValueLookup::NoValue,
+        Word::Bad(_) => ValueLookup::NoValue,
+    }
+}
+
+fn keyword_value(keyword: Keyword, place: usize) -> ValueLookup
+    ensures { λ r. ⌜ r ≡ valueIn (Word.Keyword keyword) place ⌝ }
+{
+    if role_value(role_of(keyword)) {
+        return ValueLookup::IsValue(Value::Word(keyword, place));
+    }
+    ValueLookup::NoValue
+}
+
+// A value.
+pub fn read_value(text: &[u8], at: usize) -> ValueReading
+    ensures { λ r. ⌜ valueRead r ≡ valueAt (now (text .entry)) at ⌝ }
+{
+    let token = lex::next_token(text, at);
+    let word = token.word;
+    match value_in(word, token.start) {
+        ValueLookup::IsValue(value) => ValueReading::Done(value, token.end),
+        ValueLookup::NoValue => match read_number(text, at) {
+            NumberReading::Done(number, next) => ValueReading::Done(Value::Number(number), next),
+            NumberReading::Stop(place) => ValueReading::Stop(place),
+        },
+    }
+}
+
+fn make_property(defaulted: bool, key: Token, value: Value) -> Property
+    ensures { λ r. ⌜ r ≡ property defaulted key value ⌝ }
+{
+    Property {
+        defaulted,
+        start: key.start,
+        end: key.end,
+        value,
+    }
+}
+
+// The semicolon behind a property's value.
+fn close_setting(text: &[u8], at: usize, property: Property) -> PropertyReading
+    ensures { λ r. ⌜ propertyRead r ≡ closedBy Mark.Semicolon property (now (text .entry)) at ⌝ }
+{
+    let token = lex::next_token(text, at);
+    let word = token.word;
+    if is_mark(word, Mark::Semicolon) {
+        return PropertyReading::Done(property, token.end);
+    }
+    PropertyReading::Stop(token.start)
+}
+
+// What follows a property word.
+fn read_setting(text: &[u8], at: usize, defaulted: bool, key: Token) -> PropertyReading
+    ensures { λ r. ⌜ propertyRead r ≡ settingAt defaulted key (now (text .entry)) at ⌝ }
+{
+    let token = lex::next_token(text, at);
+    let word = token.word;
+    if is_mark(word, Mark::Semicolon) {
+        let property = make_property(defaulted, key, Value::Missing);
+        return PropertyReading::Done(property, token.end);
+    }
+    if !is_mark(word, Mark::Equals) {
+        return PropertyReading::Stop(token.start);
+    }
+    match read_value(text, token.end) {
+        ValueReading::Done(value, next) => {
+            close_setting(text, next, make_property(defaulted, key, value))
+        }
+        ValueReading::Stop(place) => PropertyReading::Stop(place),
+    }
+}
+
+// A property word and what follows it.
+fn read_property_word(text: &[u8], at: usize, defaulted: bool) -> PropertyReading
+    ensures { λ r. ⌜ propertyRead r ≡ propertyWordAt defaulted (now (text .entry)) at ⌝ }
+{
+    let token = lex::next_token(text, at);
+    let word = token.word;
+    if is_property(word) {
+        return read_setting(text, token.end, defaulted, token);
+    }
+    PropertyReading::Stop(token.start)
+}
+
+// A property statement.
+pub fn read_property(text: &[u8], at: usize) -> PropertyReading
+    ensures { λ r. ⌜ propertyRead r ≡ propertyAt (now (text .entry)) at ⌝ }
+{
+    let token = lex::next_token(text, at);
+    let word = token.word;
+    if is_default(word) {
+        return read_property_word(text, token.end, true);
+    }
+    read_property_word(text, at, false)
+}
+
+// What follows a kind word that stands at `place`, up to the opening brace.
+fn read_header_rest(text: &[u8], at: usize, kind: Kind, place: usize) -> HeaderReading
+    ensures { λ r. ⌜ headerRead r ≡ headerRestAt kind place (now (text .entry)) at ⌝ }
+{
+    let token = lex::next_token(text, at);
+    let word = token.word;
+    if is_mark(word, Mark::OpenBrace) {
+        let header = Header {
+            kind,
+            place,
+            name: DefinedName::Unnamed,
+            brace: token.start,
+        };
+        return HeaderReading::Done(header, token.end);
+    }
+    if !is_name(word) {
+        return HeaderReading::Stop(token.start);
+    }
+    let brace = lex::next_token(text, token.end);
+    let second = brace.word;
+    if !is_mark(second, Mark::OpenBrace) {
+        return HeaderReading::Stop(brace.start);
+    }
+    let name = Name {
+        start: token.start,
+        end: token.end,
+    };
+    let header = Header {
+        kind,
+        place,
+        name: DefinedName::Named(name),
+        brace: brace.start,
+    };
+    HeaderReading::Done(header, brace.end)
+}
+
+// A definition up to its opening brace.
+pub fn read_header(text: &[u8], at: usize) -> HeaderReading
+    ensures { λ r. ⌜ headerRead r ≡ headerAt (now (text .entry)) at ⌝ }
+{
+    let token = lex::next_token(text, at);
+    let word = token.word;
+    match kind_of(word) {
+        KindLookup::IsKind(kind) => read_header_rest(text, token.end, kind, token.start),
+        KindLookup::NoKind => HeaderReading::Stop(token.start),
+    }
+}
+
+pub fn is_named(name: DefinedName) -> bool
+    ensures { λ r. ⌜ r ≡ isNamed name ⌝ }
+{
+    match name {
+        DefinedName::Unnamed => false,
+        DefinedName::Named(_) => true,
+    }
+}
+
+// Whether an instance statement stands there: two names, a type's and an instance's.
+pub fn starts_instances(text: &[u8], at: usize) -> bool
+    ensures { λ r. ⌜ r ≡ startsInstances (now (text .entry)) at ⌝ }
+{
+    let token = lex::next_token(text, at);
+    let word = token.word;
+    if !is_name(word) {
+        return false;
+    }
+    let second = lex::next_token(text, token.end);
+    let second_word = second.word;
+    is_name(second_word)
+}

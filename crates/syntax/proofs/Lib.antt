@@ -1,0 +1,7 @@
+pub mod Rest
+pub mod Readings
+pub mod Ends
+pub mod Turns
+pub mod Derive
+pub mod Deeper
+pub mod Worked

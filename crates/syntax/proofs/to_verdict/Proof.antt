@@ -1,0 +1,13 @@
+use borrow.Author.Needs.{needs}
+use Rattle.syntax.proofs.to_verdict.Statement.{statement}
+use Rattle.syntax.proofs.to_verdict.Tie as tie
+
+pub to-verdict-spec : {M : Type 1} → statement M
+to-verdict-spec =
+    tie.close
+    (tie.spec
+    (λ c. search needs)
+    (λ c. search needs)
+    (λ c κs. search needs)
+    (λ c. rw (c .enum-told .given .1))
+    (λ c. rw (c .before .before .answer .given .1) (c .refuse .ensures)))

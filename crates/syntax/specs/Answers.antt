@@ -1,0 +1,23 @@
+-- What the readers answer for a reading of the grammar: they keep no tree.
+use mathlib.Core.List.{List}
+use Prim.Native.Nat.{ℕ}
+use Rattle.lex.specs.Words.{refused}
+use Rattle.lex.specs.declared.Verdict.{Verdict}
+use Rattle.lex.specs.declared.Verdict.the-variants.{Accepted}
+use Rattle.parts.specs.Reading.{Parsed, ok, stop}
+use Rattle.syntax.specs.Grammar.{fileAt}
+use Rattle.syntax.specs.declared.Answer.{Answer}
+use Rattle.syntax.specs.declared.Answer.the-variants.{Done, Refused}
+
+-- the cursor past what was read, or the refusal
+unfoldable pub answerOf : {A : Type 0} → Parsed A → Answer
+answerOf (ok a next) = Done next
+answerOf (stop number place) = Refused number place
+
+abbrev pub verdictOf : Answer → Verdict
+verdictOf (Done next) = Accepted
+verdictOf (Refused number place) = refused number place
+
+-- the first refusal of a text by 3, and by 18 for bodies, or none
+unfoldable pub sentenceVerdict : List ℕ → Verdict
+sentenceVerdict text = verdictOf (answerOf (fileAt text))

@@ -1,0 +1,4 @@
+pub mod Limits
+pub mod Tree
+pub mod Grammar
+pub mod Answers

@@ -1,0 +1,177 @@
+// The sentence stage: whether a text keeps the grammar, and if not, where it first breaks. The readers keep no tree; the grammar's
+// definitions give it.
+use lex::Verdict;
+use parts::HeaderReading;
+use parts::ListedReading;
+use parts::NameReading;
+use parts::PropertyReading;
+use vocabulary::Mark;
+ghost use mathlib.Core.Path.{_≡_};
+ghost use Rattle.syntax.specs.Grammar.{instancesAt, instanceStatementAt, statementAt, tailAt, bodyAt, definitionAt, fileAt};
+ghost use Rattle.parts.specs.Parts.{propertyAt};
+ghost use Rattle.syntax.specs.Answers.{answerOf, verdictOf, sentenceVerdict};
+
+const BODY_LIMIT: usize = 8;
+
+// The cursor past what was read, or the refusal's number and place.
+pub enum Answer {
+    Done(usize),
+    Refused(u8, usize),
+}
+
+// Instances parted by commas, up to the semicolon.
+pub fn read_instances(text: &[u8], start: usize) -> Answer
+    ensures { λ r. ⌜ r ≡ answerOf (instancesAt (now (text .entry)) start) ⌝ }
+{
+    let mut at = start;
+    loop {
+        match parts::read_listed(text, at) {
+            ListedReading::Done(listed, next) => {
+                if listed.last {
+                    return Answer::Done(next);
+                }
+                at = next;
+            }
+            ListedReading::Stop(place) => {
+                return Answer::Refused(3, place);
+            }
+        }
+    }
+}
+
+// An instance statement: a type's name, then instances.
+fn read_instance_statement(text: &[u8], at: usize) -> Answer
+    ensures { λ r. ⌜ r ≡ answerOf (instanceStatementAt (now (text .entry)) at) ⌝ }
+{
+    match parts::read_name(text, at) {
+        NameReading::Done(_, next) => read_instances(text, next),
+        NameReading::Stop(place) => Answer::Refused(3, place),
+    }
+}
+
+// A property statement.
+fn read_property_statement(text: &[u8], at: usize) -> Answer
+    ensures { λ r. ⌜ r ≡ answerOf (propertyAt (now (text .entry)) at) ⌝ }
+{
+    match parts::read_property(text, at) {
+        PropertyReading::Done(_, next) => Answer::Done(next),
+        PropertyReading::Stop(place) => Answer::Refused(3, place),
+    }
+}
+
+// A statement that opens no body.
+pub fn read_statement(text: &[u8], at: usize) -> Answer
+    ensures { λ r. ⌜ r ≡ answerOf (statementAt (now (text .entry)) at) ⌝ }
+{
+    if parts::starts_instances(text, at) {
+        return read_instance_statement(text, at);
+    }
+    read_property_statement(text, at)
+}
+
+// What follows a definition's body: instances, or nothing where it has a name; then a semicolon.
+pub fn read_tail(text: &[u8], at: usize, named: bool) -> Answer
+    ensures { λ r. ⌜ r ≡ answerOf (tailAt named (now (text .entry)) at) ⌝ }
+{
+    if !named {
+        return read_instances(text, at);
+    }
+    let token = lex::next_token(text, at);
+    let word = token.word;
+    if parts::is_mark(word, Mark::Semicolon) {
+        return Answer::Done(token.end);
+    }
+    read_instances(text, at)
+}
+
+// The elements of a body up to its closing brace, where so many more bodies may be opened inside.
+pub fn read_body(text: &[u8], start: usize, bodies: usize) -> Answer
+    ensures { λ r. ⌜ r ≡ answerOf (bodyAt bodies (now (text .entry)) start) ⌝ }
+{
+    let mut at = start;
+    loop {
+        let token = lex::next_token(text, at);
+        let word = token.word;
+        if parts::is_mark(word, Mark::CloseBrace) {
+            return Answer::Done(token.end);
+        }
+        if parts::is_kind(word) {
+            match read_definition(text, at, bodies) {
+                Answer::Done(next) => {
+                    at = next;
+                }
+                Answer::Refused(number, place) => {
+                    return Answer::Refused(number, place);
+                }
+            }
+        } else {
+            match read_statement(text, at) {
+                Answer::Done(next) => {
+                    at = next;
+                }
+                Answer::Refused(number, place) => {
+                    return Answer::Refused(number, place);
+                }
+            }
+        }
+    }
+}
+
+// A definition, where so many bodies may still be opened.
+pub fn read_definition(text: &[u8], at: usize, bodies: usize) -> Answer
+    ensures { λ r. ⌜ r ≡ answerOf (definitionAt bodies (now (text .entry)) at) ⌝ }
+{
+    match parts::read_header(text, at) {
+        HeaderReading::Stop(place) => Answer::Refused(3, place),
+        HeaderReading::Done(header, inside) => {
+            if bodies == 0 {
+                return Answer::Refused(18, header.brace);
+            }
+            match read_body(text, inside, bodies - 1) {
+                Answer::Refused(number, place) => Answer::Refused(number, place),
+                Answer::Done(next) => {
+                    let name = header.name;
+                    read_tail(text, next, parts::is_named(name))
+                }
+            }
+        }
+    }
+}
+
+// The definitions of a file.
+pub fn read_file(text: &[u8]) -> Answer
+    ensures { λ r. ⌜ r ≡ answerOf (fileAt (now (text .entry))) ⌝ }
+{
+    let mut at = 0;
+    loop {
+        let token = lex::next_token(text, at);
+        let word = token.word;
+        if parts::is_end(word) {
+            return Answer::Done(token.end);
+        }
+        match read_definition(text, at, BODY_LIMIT) {
+            Answer::Done(next) => {
+                at = next;
+            }
+            Answer::Refused(number, place) => {
+                return Answer::Refused(number, place);
+            }
+        }
+    }
+}
+
+fn to_verdict(answer: Answer) -> Verdict
+    ensures { λ r. ⌜ r ≡ verdictOf answer ⌝ }
+{
+    match answer {
+        Answer::Done(_) => Verdict::Accepted,
+        Answer::Refused(number, place) => lex::refuse(number, place),
+    }
+}
+
+// The first refusal of a text by 3, and by 18 for bodies, or none.
+pub fn first_refusal(text: &[u8]) -> Verdict
+    ensures { λ r. ⌜ r ≡ sentenceVerdict (now (text .entry)) ⌝ }
+{
+    to_verdict(read_file(text))
+}
