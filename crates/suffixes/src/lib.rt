@@ -1,0 +1,179 @@
+// The suffixes of an instance: which may stand (11) and which numbers they take (9); and the bits that a field's suffix gives it.
+use parts::Array;
+use parts::Instance;
+use parts::Kind;
+use parts::Suffix;
+use parts::SuffixKind;
+ghost use mathlib.Core.Path.{_≡_};
+ghost use mathlib.Core.Bool.{_||_};
+ghost use Rattle.suffixes.specs.Suffixes.{firstOf, ranged, isSize, isRange, arrayFault, suffixRange, suffixFault, isArray, isGiven, isBarred, instanceFault};
+
+const ARRAY_LIMIT: u64 = 1024;
+
+const WIDTH_LIMIT: u64 = 64;
+
+const ADDRESS_LIMIT: u64 = 4294967295;
+
+// Nothing broken, or a broken rule's number and its place.
+pub enum Fault {
+    Sound,
+    Broken(u8, usize),
+}
+
+// The fault that stands first in the text.
+pub fn first_of(earlier: Fault, later: Fault) -> Fault
+    ensures { λ r. ⌜ r ≡ firstOf earlier later ⌝ }
+{
+    match earlier {
+        Fault::Sound => later,
+        Fault::Broken(number, place) => Fault::Broken(number, place),
+    }
+}
+
+// 9 where a number is out of its range.
+fn ranged_at(fits: bool, place: usize) -> Fault
+    ensures { λ r. ⌜ r ≡ ranged fits place ⌝ }
+{
+    if fits {
+        return Fault::Sound;
+    }
+    Fault::Broken(9, place)
+}
+
+// The number of `[n]`: a field's width, or the length of an array.
+fn is_size(field: bool, n: u64) -> bool
+    ensures { λ r. ⌜ r ≡ isSize field n ⌝ }
+{
+    if n < 1 {
+        return false;
+    }
+    if field {
+        return n <= WIDTH_LIMIT;
+    }
+    n <= ARRAY_LIMIT
+}
+
+fn is_range(left: u64, right: u64) -> bool
+    ensures { λ r. ⌜ r ≡ isRange left right ⌝ }
+{
+    if left < right {
+        return false;
+    }
+    left < WIDTH_LIMIT
+}
+
+fn array_fault(field: bool, array: Array) -> Fault
+    ensures { λ r. ⌜ r ≡ arrayFault field array ⌝ }
+{
+    match array {
+        Array::Missing => Fault::Sound,
+        Array::Size(_, size) => ranged_at(is_size(field, size.value), size.place),
+        Array::Range(mark, left, right) => {
+            if field {
+                return ranged_at(is_range(left.value, right.value), left.place);
+            }
+            Fault::Broken(11, mark)
+        }
+    }
+}
+
+fn is_stride(n: u64) -> bool
+    ensures { λ r. ⌜ r ≡ suffixRange SuffixKind.Stride n ⌝ }
+{
+    if n < 1 {
+        return false;
+    }
+    n <= ADDRESS_LIMIT
+}
+
+fn suffix_range(kind: SuffixKind, n: u64) -> bool
+    ensures { λ r. ⌜ r ≡ suffixRange kind n ⌝ }
+{
+    match kind {
+        SuffixKind::Reset => true,
+        SuffixKind::Address => n <= ADDRESS_LIMIT,
+        SuffixKind::Stride => is_stride(n),
+        SuffixKind::Alignment => settings::is_alignment(n),
+    }
+}
+
+fn suffix_fault(barred: bool, kind: SuffixKind, suffix: Suffix) -> Fault
+    ensures { λ r. ⌜ r ≡ suffixFault barred kind suffix ⌝ }
+{
+    let Suffix::Given(mark, number) = suffix else {
+        return Fault::Sound;
+    };
+    if barred {
+        return Fault::Broken(11, mark);
+    }
+    ranged_at(suffix_range(kind, number.value), number.place)
+}
+
+fn is_array(array: Array) -> bool
+    ensures { λ r. ⌜ r ≡ isArray array ⌝ }
+{
+    match array {
+        Array::Missing => false,
+        Array::Size(_, _) => true,
+        Array::Range(_, _, _) => true,
+    }
+}
+
+fn is_given(suffix: Suffix) -> bool
+    ensures { λ r. ⌜ r ≡ isGiven suffix ⌝ }
+{
+    match suffix {
+        Suffix::Missing => false,
+        Suffix::Given(_, _) => true,
+    }
+}
+
+fn either(one: bool, other: bool) -> bool
+    ensures { λ r. ⌜ r ≡ (one || other) ⌝ }
+{
+    if one {
+        return true;
+    }
+    other
+}
+
+// Whether a suffix may not stand behind an instance of a field, or of another component.
+fn is_barred(kind: SuffixKind, field: bool, instance: Instance) -> bool
+    ensures { λ r. ⌜ r ≡ isBarred kind field instance ⌝ }
+{
+    let array = instance.array;
+    let address = instance.address;
+    match kind {
+        SuffixKind::Reset => !field,
+        SuffixKind::Address => field,
+        SuffixKind::Stride => either(field, !is_array(array)),
+        SuffixKind::Alignment => either(field, is_given(address)),
+    }
+}
+
+// The fault of one suffix of an instance.
+fn fault_of(kind: SuffixKind, field: bool, instance: Instance, suffix: Suffix) -> Fault
+    ensures { λ r. ⌜ r ≡ suffixFault (isBarred kind field instance) kind suffix ⌝ }
+{
+    suffix_fault(is_barred(kind, field, instance), kind, suffix)
+}
+
+// The first fault of an instance's suffixes, for an instance of a component of this kind.
+pub fn instance_fault(kind: Kind, instance: Instance) -> Fault
+    ensures { λ r. ⌜ r ≡ instanceFault kind instance ⌝ }
+{
+    let field = settings::is_field(kind);
+    let array = instance.array;
+    let reset = instance.reset;
+    let address = instance.address;
+    let stride = instance.stride;
+    let alignment = instance.alignment;
+    let fifth = fault_of(SuffixKind::Alignment, field, instance, alignment);
+    let fourth = first_of(fault_of(SuffixKind::Stride, field, instance, stride), fifth);
+    let third = first_of(
+        fault_of(SuffixKind::Address, field, instance, address),
+        fourth,
+    );
+    let second = first_of(fault_of(SuffixKind::Reset, field, instance, reset), third);
+    first_of(array_fault(field, array), second)
+}
