@@ -1,0 +1,70 @@
+-- Worked texts, judged by computation: one table under one claim.
+use mathlib.Core.Path.{_≡_, refl}
+use mathlib.Core.List.{List, [], _∷_, map}
+use Prim.Native.Nat.{ℕ}
+use Prim.Native.String.{String}
+use Rattle.chars.specs.Ascii.{bytes, isWithin, isBlank, isLineEnd, isLetter, isNameByte, isNumberByte, isHexDigit, isSpacedDigit}
+use Rattle.chars.specs.Run.{run, every}
+use Rattle.chars.specs.Same.{sameBytes}
+use Rattle.vocabulary.specs.Vocabulary.{chosen, entry, keywordOf, propertyOf, markOf}
+use Rattle.numbers.specs.Number.{digitValue, nextValue, valueFrom, fitting, radixOf, plainDigits, spacedDigits, widthOf, sizedNumber, sizedAt, hexPrefixed, hexNumber, numberOf}
+use Rattle.lex.specs.Blank.{blanks, nextFrom}
+use Rattle.lex.specs.Quote.{closes, closing}
+use Rattle.lex.specs.Token.{nameWord, nameToken, numberToken, stringToken, markToken, tokenFrom, tokenAt}
+use Rattle.parts.specs.Reading.{Parsed, ok, stop, andThen, mapped}
+use Rattle.parts.specs.Words.{isName, kindOf, isKind, isDefault, isProperty, isMark, isEnd}
+use Rattle.parts.specs.Parts.{closedBy, nameAt, numberAt, arrayRestAt, arrayAt, suffixAt, setSuffix, withSuffix, bareAt, instanceAt, partedAt, listedAt, valueAt, settingAt, propertyWordAt, propertyAt, headerRestAt, headerAt, startsInstances}
+use Rattle.syntax.specs.Tree.{Body}
+use Rattle.syntax.specs.Grammar.{instancesFrom, instancesAt, instanceStatementAt, statementAt, tailAt, elementAt, elementsAt, definitionWith, definitionAt, definitionsFrom, fileAt}
+use Rattle.settings.specs.Settings.{isAllowed, isWidth, isPowerTo, settingAs, settingOf}
+use Rattle.suffixes.specs.Suffixes.{ranged, isSize, isRange, suffixRange, isBarred, instanceFault}
+use Rattle.rules.specs.Names.{bytesOf, sameName, stands}
+use Rattle.rules.specs.Assigned.{givenIn}
+use Rattle.rules.specs.Component.{Component, snoc}
+use Rattle.rules.specs.Fields.{isReadable, isWritable, isIdle, some, isResetWide, isOutside, isPair, isOverlap, overlaps, isSplit, regFault}
+use Rattle.rules.specs.Judge.{Judged, fault, fine, onward, unless, lookup, mayDefine, mayHold, isBadMap, assigned, judgeValue, judgeKnown, judgeProperty, withField, withChild, judgeInstances, judgeUse, fieldClosed, regClosed, groupClosed, declared, judgeDefinition, judgeElem, judgeBody, judgeFile, judge}
+
+-- the first fault of a text by these rules, or none; and a text that the grammar refuses
+pub data Answer : Type 0 where
+  refused : ℕ → ℕ → Answer
+  accepted : Answer
+  unread : Answer
+
+abbrev answerOf : Judged Component → Answer
+answerOf (fault n p) = refused n p
+answerOf (fine c) = accepted
+
+abbrev answer : List ℕ → Parsed Body → Answer
+answer text (ok b n) = answerOf (judge text b)
+answer text (stop n p) = unread
+
+pub record Case : Type 0 where
+  pub text : String
+  pub due : Answer
+
+abbrev case : String → Answer → Case
+case t a = record { text = t; due = a }
+
+pub cases : List Case
+cases =
+    case "" (refused 10 0) ∷
+    case "addrmap m { regfile t { t x; } y; };" (refused 5 24) ∷
+    case "addrmap m { reg { field {} f; } a, a; };" (refused 6 35) ∷
+    case "addrmap m { reg { sw; field {} f; } a; };" (refused 7 18) ∷
+    case "addrmap m { reg { field { sw = r; sw; } f; } a; };" (refused 8 34) ∷
+    case "addrmap m { reg { field { rclr; onread = rset; } f; } a; };" (refused 8 32) ∷
+    case "addrmap m { reg { field {} f[3:5]; } a; };" (refused 9 29) ∷
+    case "addrmap m { reg { field {} f; } a += 0; };" (refused 11 34) ∷
+    case "field t { sw = w; rclr; };" (refused 12 24) ∷
+    case "addrmap m { field t { reset = 4; }; reg { t f; } a; };" (refused 13 47) ∷
+    case "reg t { regwidth = 32; accesswidth = 64; field {} f; };" (refused 14 53) ∷
+    case "addrmap m { reg { field {} f[33]; } a; };" (refused 15 34) ∷
+    case "addrmap m { reg { field { sw = na; } f; field { sw = r; } g[0:0]; } a; };" (refused 16 66) ∷
+    case "addrmap m { reg { regwidth=64; accesswidth=32; field {} f[32:0]; } a; };" (refused 17 65) ∷
+    case "addrmap m { reg { regwidth=64; accesswidth=32; field {} f[31:0]; } a; };" accepted ∷
+    case "addrmap m { default sw = w; field t {}; reg { default rclr; t f; } a; };" accepted ∷
+    []
+
+pub worked : map (λ c. answer (bytes (c .text)) (fileAt (bytes (c .text)))) cases ≡ map (λ c. c .due) cases
+unfolding cases isWithin isBlank isLineEnd isLetter isNameByte isNumberByte isHexDigit isSpacedDigit run every sameBytes chosen entry keywordOf propertyOf markOf digitValue nextValue valueFrom fitting radixOf plainDigits spacedDigits widthOf sizedNumber sizedAt hexPrefixed hexNumber numberOf blanks nextFrom closes closing nameWord nameToken numberToken stringToken markToken tokenFrom tokenAt andThen mapped isName kindOf isKind isDefault isProperty isMark isEnd closedBy nameAt numberAt arrayRestAt arrayAt suffixAt setSuffix withSuffix bareAt instanceAt partedAt listedAt valueAt settingAt propertyWordAt propertyAt headerRestAt headerAt startsInstances instancesFrom instancesAt instanceStatementAt statementAt tailAt elementAt elementsAt definitionWith definitionAt definitionsFrom fileAt isAllowed isWidth isPowerTo settingAs settingOf ranged isSize isRange suffixRange isBarred instanceFault bytesOf sameName stands givenIn snoc isReadable isWritable isIdle some isResetWide isOutside isPair isOverlap overlaps isSplit regFault onward unless lookup mayDefine mayHold isBadMap assigned judgeValue judgeKnown judgeProperty withField withChild judgeInstances judgeUse fieldClosed regClosed groupClosed declared judgeDefinition judgeElem judgeBody judgeFile judge
+worked = refl

@@ -1,0 +1,18 @@
+-- Names of a text, compared by their bytes.
+use mathlib.Core.Bool.{Bool, true, false, _||_}
+use mathlib.Core.List.{List, [], _∷_}
+use Prim.Native.Nat.{ℕ, _-_}
+use lib.ListN.{take, drop}
+use Rattle.chars.specs.Same.{sameBytes}
+use Rattle.parts.specs.declared.Name.{Name}
+
+unfoldable pub bytesOf : List ℕ → ℕ → ℕ → List ℕ
+bytesOf text start end = take (end - start) (drop start text)
+
+unfoldable pub sameName : List ℕ → Name → Name → Bool
+sameName text a b = sameBytes (bytesOf text (a .start) (a .end)) (bytesOf text (b .start) (b .end))
+
+-- whether a name stands among the names
+unfoldable pub stands : List ℕ → Name → List Name → Bool
+stands text n [] = false
+stands text n (m ∷ ms) = sameName text n m || stands text n ms
