@@ -1,5 +1,5 @@
 -- The walk over a text's tokens: what is left of it comes to the same answer.
-use mathlib.Core.Path.{_≡_, refl, sym, _∙_}
+use mathlib.Core.Path.{_≡_, refl, sym, ap, _∙_}
 use mathlib.Core.List.{List}
 use Prim.Native.Nat.{ℕ, zero, suc, _+_, _<_, _≤_}
 use native.Mathlib.Omega.{arith}
@@ -59,3 +59,23 @@ module _ (t : List ℕ) (at : ℕ) {x : Verdict} {k : Token} {s : Step} (l : Lef
   left-past z =
       let e : judged k ≡ GoOn = sym j ∙ z in
       rw q (go-on t at (l .inside) (rw q at e))
+
+-- any number of tokens that is enough gives the same answer
+more-tokens : (f : ℕ) (t : List ℕ) (at : ℕ) → length t < f + at → at ≤ length t → firstBad f t at ≡ firstBad (suc f) t at
+unfolding firstBad
+more-tokens zero t at e i = absurd (omega arith)
+more-tokens (suc f) t at e i = by (judged (tokenAt t at)) refl (more-tokens f t (tokenAt t at .end))
+  where
+    by : (s : Step) → judged (tokenAt t at) ≡ s
+        → (length t < f + tokenAt t at .end → tokenAt t at .end ≤ length t → firstBad f t (tokenAt t at .end) ≡ firstBad (suc f) t (tokenAt t at .end))
+        → stepped s (firstBad f t (tokenAt t at .end)) ≡ stepped s (firstBad (suc f) t (tokenAt t at .end))
+    by (Stop v) g rec = refl
+    by GoOn g rec =
+        let p : (at < tokenAt t at .end) × (tokenAt t at .end ≤ length t) = go-on t at i g in
+        rec (omega arith) (p .1)
+
+pub tokens-enough : (k : ℕ) (t : List ℕ) → firstBad (length t + 1) t 0 ≡ firstBad (k + (length t + 1)) t 0
+tokens-enough zero t = ap (λ (n : ℕ). firstBad n t 0) (omega arith)
+tokens-enough (suc k) t =
+    let n : suc (k + (length t + 1)) ≡ suc k + (length t + 1) = omega arith in
+    tokens-enough k t ∙ more-tokens (k + (length t + 1)) t 0 (omega arith) (omega arith) ∙ ap (λ (m : ℕ). firstBad m t 0) n

@@ -11,12 +11,16 @@ use Rattle.vocabulary.specs.declared.Mark.the-variants as mark
 use Rattle.parts.specs.Reading.{Parsed, ok, stop, andThen, mapped}
 use Rattle.parts.specs.Words.{isKind, isMark}
 use Rattle.parts.specs.declared.Header.{Header}
-use Rattle.parts.proofs.Ends.{Ends, ends-of, mark-past}
+use Rattle.parts.specs.Words.{isEnd}
+use Rattle.parts.specs.Parts.{listedAt}
+use Rattle.parts.specs.declared.Instance.{Instance}
+use Rattle.parts.proofs.Ends.{Ends, ends-of, mark-past, listed-ends}
+use Rattle.syntax.specs.Limits.{bodyLimit}
 use Rattle.syntax.specs.Tree.{Elem, Body, close, more}
-use Rattle.syntax.specs.Grammar.{statementAt, elementAt, elementsAt, definitionWith, definitionAt, bodyAt}
+use Rattle.syntax.specs.Grammar.{instancesFrom, statementAt, elementAt, elementsAt, definitionWith, definitionAt, bodyAt, definitionsFrom}
 use Rattle.syntax.proofs.Ends.{element-ends, definition-ends}
 use Rattle.syntax.proofs.Turns.{definition-more}
-use Rattle.syntax.proofs.Derive.{Reads, reads-close, reads-more, elements-read, Defined, definition-parts, parts-definition}
+use Rattle.syntax.proofs.Derive.{Lists, lists-last, lists-more, Reads, reads-close, reads-more, elements-read, Files, files-end, files-more, Defined, definition-parts, parts-definition}
 
 -- what the first reader reads, the second reads too
 abbrev pub Weaker : {A B : Type 0} → (B → ℕ → Parsed A) → (B → ℕ → Parsed A) → Type 0
@@ -82,3 +86,20 @@ module _ (t : List ℕ) where
 
   pub body-deeper : (bodies at : ℕ) (b : Body) (m : ℕ) → bodyAt bodies t at ≡ ok b m → bodyAt (suc bodies) t at ≡ ok b m
   body-deeper bodies = body-weaker bodies (definition-deeper bodies)
+
+  -- lists of instances and files, with any number of turns that is enough
+  pub lists-enough : {at m : ℕ} {is : List Instance} → Lists t at is m → (turns : ℕ) → length t ≤ at + turns → instancesFrom turns t at ≡ ok is m
+  unfolding instancesFrom andThen mapped
+  lists-enough (lists-last {at = at} q h) zero f = absurd (omega (arith, ends-of (listed-ends t at) q))
+  lists-enough (lists-last q h) (suc turns) f = rw (q, h)
+  lists-enough (lists-more {at = at} q h r) zero f = absurd (omega (arith, ends-of (listed-ends t at) q))
+  lists-enough (lists-more {at = at} q h r) (suc turns) f = rw (q, h, lists-enough r turns (omega (arith, ends-of (listed-ends t at) q)))
+
+  pub files-enough : {at m : ℕ} {b : Body} → Files t at b m → at ≤ length t → (turns : ℕ) → length t < at + turns → definitionsFrom turns t at ≡ ok b m
+  unfolding definitionsFrom andThen mapped
+  files-enough (files-end h) i zero f = absurd (omega arith)
+  files-enough (files-end h) i (suc turns) f = rw h
+  files-enough (files-more h q r) i zero f = absurd (omega arith)
+  files-enough (files-more {at = at} h q r) i (suc turns) f =
+      let p = ends-of (definition-ends t bodyLimit at) q in
+      rw (h, q, files-enough r (p .1) turns (omega arith))
