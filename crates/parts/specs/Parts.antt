@@ -84,15 +84,19 @@ suffixAt s text at =
     if isMark (suffixMark s) (k .word) then mapped (suffix.Given (k .start)) (numberAt text (k .end)) else
     ok suffix.Missing at
 
+-- an instance of its parts: name, array, reset, address, stride, alignment
+abbrev pub instanceOf : Name → Array → Suffix → Suffix → Suffix → Suffix → Instance
+instanceOf n a r d s l = record { name = n; array = a; reset = r; address = d; stride = s; alignment = l }
+
 -- an instance with no suffix yet
 abbrev pub bare : Name → Array → Instance
-bare n a = record { name = n; array = a; reset = suffix.Missing; address = suffix.Missing; stride = suffix.Missing; alignment = suffix.Missing }
+bare n a = instanceOf n a suffix.Missing suffix.Missing suffix.Missing suffix.Missing
 
 unfoldable pub setSuffix : SuffixKind → Suffix → Instance → Instance
-setSuffix Reset s i = record { name = i .name; array = i .array; reset = s; address = i .address; stride = i .stride; alignment = i .alignment }
-setSuffix Address s i = record { name = i .name; array = i .array; reset = i .reset; address = s; stride = i .stride; alignment = i .alignment }
-setSuffix Stride s i = record { name = i .name; array = i .array; reset = i .reset; address = i .address; stride = s; alignment = i .alignment }
-setSuffix Alignment s i = record { name = i .name; array = i .array; reset = i .reset; address = i .address; stride = i .stride; alignment = s }
+setSuffix Reset s i = instanceOf (i .name) (i .array) s (i .address) (i .stride) (i .alignment)
+setSuffix Address s i = instanceOf (i .name) (i .array) (i .reset) s (i .stride) (i .alignment)
+setSuffix Stride s i = instanceOf (i .name) (i .array) (i .reset) (i .address) s (i .alignment)
+setSuffix Alignment s i = instanceOf (i .name) (i .array) (i .reset) (i .address) (i .stride) s
 
 -- an instance so far, and one suffix more
 unfoldable pub withSuffix : SuffixKind → List ℕ → Parsed Instance → Parsed Instance

@@ -7,7 +7,7 @@ use vocabulary::Mark;
 ghost use mathlib.Core.Path.{_≡_};
 ghost use Rattle.parts.specs.Reading.{mapped};
 ghost use Rattle.parts.specs.Words.{roleOf, roleKind, roleDefault, roleProperty, roleValue, isName, kindOf, isKind, isDefault, isProperty, markNumber, isMark, isEnd};
-ghost use Rattle.parts.specs.Parts.{closedBy, nameAt, numberAt, arrayRestAt, arrayAt, suffixMark, suffixAt, bare, setSuffix, withSuffix, bareAt, instanceAt, partedAt, listedAt, valueIn, valueAt, property, settingAt, propertyWordAt, propertyAt, headerRestAt, headerAt, isNamed, startsInstances};
+ghost use Rattle.parts.specs.Parts.{closedBy, nameAt, numberAt, arrayRestAt, arrayAt, suffixMark, suffixAt, instanceOf, bare, setSuffix, withSuffix, bareAt, instanceAt, partedAt, listedAt, valueIn, valueAt, property, settingAt, propertyWordAt, propertyAt, headerRestAt, headerAt, isNamed, startsInstances};
 ghost use Rattle.parts.specs.Answers.{nameRead, numberRead, arrayRead, suffixRead, instanceRead, listedRead, valueRead, propertyRead, headerRead};
 
 // The kinds of component.
@@ -461,6 +461,27 @@ pub fn read_suffix(text: &[u8], at: usize, kind: SuffixKind) -> SuffixReading
     }
 }
 
+// An instance of its parts.
+fn instance_of(
+    name: Name,
+    array: Array,
+    reset: Suffix,
+    address: Suffix,
+    stride: Suffix,
+    alignment: Suffix,
+) -> Instance
+    ensures { λ r. ⌜ r ≡ instanceOf name array reset address stride alignment ⌝ }
+{
+    Instance {
+        name,
+        array,
+        reset,
+        address,
+        stride,
+        alignment,
+    }
+}
+
 // An instance with one suffix set.
 fn set_suffix(kind: SuffixKind, suffix: Suffix, instance: Instance) -> Instance
     ensures { λ r. ⌜ r ≡ setSuffix kind suffix instance ⌝ }
@@ -472,38 +493,10 @@ fn set_suffix(kind: SuffixKind, suffix: Suffix, instance: Instance) -> Instance
     let stride = instance.stride;
     let alignment = instance.alignment;
     match kind {
-        SuffixKind::Reset => Instance {
-            name,
-            array,
-            reset: suffix,
-            address,
-            stride,
-            alignment,
-        },
-        SuffixKind::Address => Instance {
-            name,
-            array,
-            reset,
-            address: suffix,
-            stride,
-            alignment,
-        },
-        SuffixKind::Stride => Instance {
-            name,
-            array,
-            reset,
-            address,
-            stride: suffix,
-            alignment,
-        },
-        SuffixKind::Alignment => Instance {
-            name,
-            array,
-            reset,
-            address,
-            stride,
-            alignment: suffix,
-        },
+        SuffixKind::Reset => instance_of(name, array, suffix, address, stride, alignment),
+        SuffixKind::Address => instance_of(name, array, reset, suffix, stride, alignment),
+        SuffixKind::Stride => instance_of(name, array, reset, address, suffix, alignment),
+        SuffixKind::Alignment => instance_of(name, array, reset, address, stride, suffix),
     }
 }
 

@@ -18,10 +18,10 @@ use Rattle.syntax.specs.Tree.{Body}
 use Rattle.syntax.specs.Grammar.{instancesFrom, instancesAt, instanceStatementAt, statementAt, tailAt, elementAt, elementsAt, definitionWith, definitionAt, definitionsFrom, fileAt}
 use Rattle.settings.specs.Settings.{isAllowed, isWidth, isPowerTo, settingAs, settingOf}
 use Rattle.suffixes.specs.Suffixes.{ranged, isSize, isRange, suffixRange, isBarred, instanceFault}
-use Rattle.rules.specs.Names.{bytesOf, sameName, stands}
+use Rattle.rules.specs.Names.{bytesOf, sameName, isAmong}
 use Rattle.rules.specs.Assigned.{givenIn}
 use Rattle.rules.specs.Component.{Component, snoc}
-use Rattle.rules.specs.Fields.{isReadable, isWritable, isIdle, some, isResetWide, isOutside, isPair, isOverlap, overlaps, isSplit, regFault}
+use Rattle.rules.specs.Fields.{isReadable, isWritable, hasUnusableEffect, some, isResetWide, isOutside, isReadWritePair, isOverlap, overlaps, spansParts, regFault}
 use Rattle.rules.specs.Judge.{Judged, fault, fine, onward, unless, lookup, mayDefine, mayHold, isBadMap, assigned, judgeValue, judgeKnown, judgeProperty, withField, withChild, judgeInstances, judgeUse, fieldClosed, regClosed, groupClosed, declared, judgeDefinition, judgeElem, judgeBody, judgeFile, judge}
 
 -- the first fault of a text by these rules, or none; and a text that the grammar refuses
@@ -66,5 +66,5 @@ cases =
     []
 
 pub worked : map (λ c. answer (bytes (c .text)) (fileAt (bytes (c .text)))) cases ≡ map (λ c. c .due) cases
-unfolding cases isWithin isBlank isLineEnd isLetter isNameByte isNumberByte isHexDigit isSpacedDigit run every sameBytes chosen entry keywordOf propertyOf markOf digitValue nextValue valueFrom fitting radixOf plainDigits spacedDigits widthOf sizedNumber sizedAt hexPrefixed hexNumber numberOf blanks nextFrom closes closing nameWord nameToken numberToken stringToken markToken tokenFrom tokenAt andThen mapped isName kindOf isKind isDefault isProperty isMark isEnd closedBy nameAt numberAt arrayRestAt arrayAt suffixAt setSuffix withSuffix bareAt instanceAt partedAt listedAt valueAt settingAt propertyWordAt propertyAt headerRestAt headerAt startsInstances instancesFrom instancesAt instanceStatementAt statementAt tailAt elementAt elementsAt definitionWith definitionAt definitionsFrom fileAt isAllowed isWidth isPowerTo settingAs settingOf ranged isSize isRange suffixRange isBarred instanceFault bytesOf sameName stands givenIn snoc isReadable isWritable isIdle some isResetWide isOutside isPair isOverlap overlaps isSplit regFault onward unless lookup mayDefine mayHold isBadMap assigned judgeValue judgeKnown judgeProperty withField withChild judgeInstances judgeUse fieldClosed regClosed groupClosed declared judgeDefinition judgeElem judgeBody judgeFile judge
+unfolding cases isWithin isBlank isLineEnd isLetter isNameByte isNumberByte isHexDigit isSpacedDigit run every sameBytes chosen entry keywordOf propertyOf markOf digitValue nextValue valueFrom fitting radixOf plainDigits spacedDigits widthOf sizedNumber sizedAt hexPrefixed hexNumber numberOf blanks nextFrom closes closing nameWord nameToken numberToken stringToken markToken tokenFrom tokenAt andThen mapped isName kindOf isKind isDefault isProperty isMark isEnd closedBy nameAt numberAt arrayRestAt arrayAt suffixAt setSuffix withSuffix bareAt instanceAt partedAt listedAt valueAt settingAt propertyWordAt propertyAt headerRestAt headerAt startsInstances instancesFrom instancesAt instanceStatementAt statementAt tailAt elementAt elementsAt definitionWith definitionAt definitionsFrom fileAt isAllowed isWidth isPowerTo settingAs settingOf ranged isSize isRange suffixRange isBarred instanceFault bytesOf sameName isAmong givenIn snoc isReadable isWritable hasUnusableEffect some isResetWide isOutside isReadWritePair isOverlap overlaps spansParts regFault onward unless lookup mayDefine mayHold isBadMap assigned judgeValue judgeKnown judgeProperty withField withChild judgeInstances judgeUse fieldClosed regClosed groupClosed declared judgeDefinition judgeElem judgeBody judgeFile judge
 worked = refl

@@ -19,8 +19,8 @@ unfoldable pub isWritable : FieldType → Bool
 isWritable f = eqb (f .sw) (accessCode access.W) || eqb (f .sw) (accessCode access.Rw)
 
 -- 12: "`onread` without reading, `onwrite` without writing"
-unfoldable pub isIdle : FieldType → Bool
-isIdle f = (ltb 0 (f .onread) && not (isReadable f)) || (ltb 0 (f .onwrite) && not (isWritable f))
+unfoldable pub hasUnusableEffect : FieldType → Bool
+hasUnusableEffect f = (ltb 0 (f .onread) && not (isReadable f)) || (ltb 0 (f .onwrite) && not (isWritable f))
 
 -- "`[n]` is a width, none is 1. Without a range, a field starts one above the previous declared field's top bit, the first at 0"
 abbrev pub lowBit : ℕ → Array → ℕ
@@ -51,20 +51,20 @@ unfoldable pub isOutside : ℕ → FieldAt → Bool
 isOutside width f = leb width (f .high)
 
 -- "Overlap is lawful only between one read-only and one write-only: `sw` is `r`, respectively `w`"
-unfoldable pub isPair : ℕ → ℕ → Bool
-isPair a b = (eqb a (accessCode access.R) && eqb b (accessCode access.W)) || (eqb a (accessCode access.W) && eqb b (accessCode access.R))
+unfoldable pub isReadWritePair : ℕ → ℕ → Bool
+isReadWritePair a b = (eqb a (accessCode access.R) && eqb b (accessCode access.W)) || (eqb a (accessCode access.W) && eqb b (accessCode access.R))
 
 -- 16: two fields that share a bit
 unfoldable pub isOverlap : FieldAt → FieldAt → Bool
-isOverlap f g = (leb (f .low) (g .high) && leb (g .low) (f .high)) && not (isPair (f .type .sw) (g .type .sw))
+isOverlap f g = (leb (f .low) (g .high) && leb (g .low) (f .high)) && not (isReadWritePair (f .type .sw) (g .type .sw))
 
 unfoldable pub overlaps : List FieldAt → Bool
 overlaps [] = false
 overlaps (f ∷ fs) = some (isOverlap f) fs || overlaps fs
 
 -- 17: "a software-writable field lies within one access part"
-unfoldable pub isSplit : ℕ → FieldAt → Bool
-isSplit part f = isWritable (f .type) && not (eqb (f .low / part) (f .high / part))
+unfoldable pub spansParts : ℕ → FieldAt → Bool
+spansParts part f = isWritable (f .type) && not (eqb (f .low / part) (f .high / part))
 
 -- the smallest number of 13 to 17 that a register breaks, and 0 for none
 unfoldable pub regFault : RegType → ℕ
@@ -73,5 +73,5 @@ regFault r =
     if ltb (r .width) (r .access) then 14 else
     if some (isOutside (r .width)) (r .fields) then 15 else
     if overlaps (r .fields) then 16 else
-    if some (isSplit (r .access)) (r .fields) then 17 else
+    if some (spansParts (r .access)) (r .fields) then 17 else
     0

@@ -30,10 +30,10 @@ use Rattle.suffixes.specs.declared.Fault.{Fault}
 use Rattle.suffixes.specs.declared.Fault.the-variants.{Sound, Broken}
 use Rattle.syntax.specs.Tree.{Elem, definition, instances, property, Body, close, more}
 use Rattle.rules.specs.Limits.{definitionLimit, standardWidth}
-use Rattle.rules.specs.Names.{bytesOf, sameName, stands}
+use Rattle.rules.specs.Names.{bytesOf, sameName, isAmong}
 use Rattle.rules.specs.Assigned.{Assigned, Given, none, given, givenIn, isGiven, orElse}
 use Rattle.rules.specs.Component.{FieldType, FieldAt, RegType, Component, field, reg, group, Children, nil, child, snoc, kindOf}
-use Rattle.rules.specs.Fields.{isIdle, lowBit, highBit, regFault}
+use Rattle.rules.specs.Fields.{hasUnusableEffect, lowBit, highBit, regFault}
 
 -- a fault's number and place, or what was judged
 pub data Judged (A : Type 0) : Type 0 where
@@ -124,7 +124,7 @@ isBadMap s h = isMap (h .kind) && (isKnown (s .map) || isUnnamed (h .name))
 -- 6, of a type
 abbrev pub typeTwice : List ℕ → State → DefinedName → Bool
 typeTwice text s Unnamed = false
-typeTwice text s (Named n) = stands text n (s .types)
+typeTwice text s (Named n) = isAmong text n (s .types)
 
 abbrev pub namePlace : DefinedName → ℕ
 namePlace Unnamed = 0
@@ -236,7 +236,7 @@ unfoldable pub judgeInstances : List ℕ → Place → Component → List Instan
 judgeInstances text b c [] s = fine s
 judgeInstances text b c (i ∷ is) s =
     let rest = judgeInstances text b c is (held s i c) in
-    unless (stands text (i .name) (s .names)) 6 (i .name .start)
+    unless (isAmong text (i .name) (s .names)) 6 (i .name .start)
     (unless (not (mayHold b (kindOf c))) 10 (i .name .start) (suffixes (instanceFault (kindOf c) i) rest))
 
 -- 5: an instance statement
@@ -273,7 +273,7 @@ isEmpty (f ∷ fs) = false
 
 -- a body's end, at its closing brace: "Every body but a field's needs at least one instance" (10), then 12 to 17
 unfoldable pub fieldClosed : FieldType → ℕ → Judged Component
-fieldClosed f p = unless (isIdle f) 12 p (fine (field f))
+fieldClosed f p = unless (hasUnusableEffect f) 12 p (fine (field f))
 
 unfoldable pub regClosed : RegType → ℕ → Judged Component
 regClosed r p = unless (isEmpty (r .fields)) 10 p (unless (ltb 0 (regFault r)) (regFault r) p (fine (reg r)))

@@ -13,6 +13,6 @@ unfoldable pub sameName : List ℕ → Name → Name → Bool
 sameName text a b = sameBytes (bytesOf text (a .start) (a .end)) (bytesOf text (b .start) (b .end))
 
 -- whether a name stands among the names
-unfoldable pub stands : List ℕ → Name → List Name → Bool
-stands text n [] = false
-stands text n (m ∷ ms) = sameName text n m || stands text n ms
+unfoldable pub isAmong : List ℕ → Name → List Name → Bool
+isAmong text n [] = false
+isAmong text n (m ∷ ms) = sameName text n m || isAmong text n ms
