@@ -1,1 +1,10 @@
+pub mod Frames
+pub mod Instances
+pub mod Listing
+pub mod Statements
+pub mod Headers
+pub mod Closing
+pub mod Bodies
+pub mod Loops
+pub mod Rulings
 pub mod Worked

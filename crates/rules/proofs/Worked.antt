@@ -18,11 +18,16 @@ use Rattle.syntax.specs.Tree.{Body}
 use Rattle.syntax.specs.Grammar.{instancesFrom, instancesAt, instanceStatementAt, statementAt, tailAt, elementAt, elementsAt, definitionWith, definitionAt, definitionsFrom, fileAt}
 use Rattle.settings.specs.Settings.{isAllowed, isWidth, isPowerTo, settingAs, settingOf}
 use Rattle.suffixes.specs.Suffixes.{ranged, isSize, isRange, suffixRange, isBarred, instanceFault}
-use Rattle.rules.specs.Names.{bytesOf, sameName, isAmong}
-use Rattle.rules.specs.Assigned.{givenIn}
-use Rattle.rules.specs.Component.{Component, snoc}
-use Rattle.rules.specs.Fields.{isReadable, isWritable, hasUnusableEffect, some, isResetWide, isOutside, isReadWritePair, isOverlap, overlaps, spansParts, regFault}
-use Rattle.rules.specs.Judge.{Judged, fault, fine, onward, unless, lookup, mayDefine, mayHold, isBadMap, assigned, judgeValue, judgeKnown, judgeProperty, withField, withChild, judgeInstances, judgeUse, fieldClosed, regClosed, groupClosed, declared, judgeDefinition, judgeElem, judgeBody, judgeFile, judge}
+use Rattle.names.specs.Names.{bytesOf, sameName, isAmong}
+use Rattle.properties.specs.Judged.{Judged, fault, fine, onward, unless}
+use Rattle.properties.specs.Assigned.{assign, nearest, assigned}
+use Rattle.properties.specs.Properties.{judgeValue, judgeKnown, judgeProperty}
+use Rattle.components.specs.Components.{componentOf}
+use Rattle.components.specs.Fields.{isReadable, isWritable, hasUnusableEffect, fieldAt, isResetWide, isOutside, isReadWritePair, isOverlap, spansParts, breaks}
+use Rattle.table.specs.Definitions.{lookup}
+use Rattle.closing.specs.Registers.{fieldsFrom, some, overlaps, registerFault, closingFault}
+use Rattle.places.specs.Places.{mayDefine, mayHold, isBadMap}
+use Rattle.rules.specs.Judge.{judgeInstances, judgeUse, judgeSetting, closed, declared, judgeDefinition, Meaning, judgeElem, judgeBody, judgeFile, judge}
 
 -- the first fault of a text by these rules, or none; and a text that the grammar refuses
 pub data Answer : Type 0 where
@@ -30,7 +35,7 @@ pub data Answer : Type 0 where
   accepted : Answer
   unread : Answer
 
-abbrev answerOf : Judged Component → Answer
+abbrev answerOf : Judged Meaning → Answer
 answerOf (fault n p) = refused n p
 answerOf (fine c) = accepted
 
@@ -66,5 +71,5 @@ cases =
     []
 
 pub worked : map (λ c. answer (bytes (c .text)) (fileAt (bytes (c .text)))) cases ≡ map (λ c. c .due) cases
-unfolding cases isWithin isBlank isLineEnd isLetter isNameByte isNumberByte isHexDigit isSpacedDigit run every sameBytes chosen entry keywordOf propertyOf markOf digitValue nextValue valueFrom fitting radixOf plainDigits spacedDigits widthOf sizedNumber sizedAt hexPrefixed hexNumber numberOf blanks nextFrom closes closing nameWord nameToken numberToken stringToken markToken tokenFrom tokenAt andThen mapped isName kindOf isKind isDefault isProperty isMark isEnd closedBy nameAt numberAt arrayRestAt arrayAt suffixAt setSuffix withSuffix bareAt instanceAt partedAt listedAt valueAt settingAt propertyWordAt propertyAt headerRestAt headerAt startsInstances instancesFrom instancesAt instanceStatementAt statementAt tailAt elementAt elementsAt definitionWith definitionAt definitionsFrom fileAt isAllowed isWidth isPowerTo settingAs settingOf ranged isSize isRange suffixRange isBarred instanceFault bytesOf sameName isAmong givenIn snoc isReadable isWritable hasUnusableEffect some isResetWide isOutside isReadWritePair isOverlap overlaps spansParts regFault onward unless lookup mayDefine mayHold isBadMap assigned judgeValue judgeKnown judgeProperty withField withChild judgeInstances judgeUse fieldClosed regClosed groupClosed declared judgeDefinition judgeElem judgeBody judgeFile judge
+unfolding cases isWithin isBlank isLineEnd isLetter isNameByte isNumberByte isHexDigit isSpacedDigit run every sameBytes chosen entry keywordOf propertyOf markOf digitValue nextValue valueFrom fitting radixOf plainDigits spacedDigits widthOf sizedNumber sizedAt hexPrefixed hexNumber numberOf blanks nextFrom closes closing nameWord nameToken numberToken stringToken markToken tokenFrom tokenAt andThen mapped isName kindOf isKind isDefault isProperty isMark isEnd closedBy nameAt numberAt arrayRestAt arrayAt suffixAt setSuffix withSuffix bareAt instanceAt partedAt listedAt valueAt settingAt propertyWordAt propertyAt headerRestAt headerAt startsInstances instancesFrom instancesAt instanceStatementAt statementAt tailAt elementAt elementsAt definitionWith definitionAt definitionsFrom fileAt isAllowed isWidth isPowerTo settingAs settingOf ranged isSize isRange suffixRange isBarred instanceFault bytesOf sameName isAmong isReadable isWritable hasUnusableEffect some isResetWide isOutside isReadWritePair isOverlap overlaps spansParts onward unless lookup mayDefine mayHold isBadMap assigned judgeValue judgeKnown judgeProperty judgeInstances judgeUse declared judgeDefinition judgeElem judgeBody judgeFile judge assign nearest componentOf fieldAt breaks fieldsFrom registerFault closingFault judgeSetting closed
 worked = refl

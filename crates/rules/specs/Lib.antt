@@ -1,6 +1,4 @@
 pub mod Limits
-pub mod Names
-pub mod Assigned
-pub mod Component
-pub mod Fields
 pub mod Judge
+pub mod Standing
+pub mod Rules

@@ -1,6 +1,7 @@
 // Asks the stages built so far about each text of the conformance pack data/base.pack (for each case the u32 lengths of the text
 // and of the answer, then both). Writes a line for each text on which they differ from the answer, then how many there are and
-// on how many they agree. A new stage joins `stages`, and the refusals that it decides join `is_decided`.
+// on how many they agree. A new stage joins `stages`, and the refusals that it decides join
+// `is_decided`.
 use lex::Verdict;
 use testing::MOST_CASES;
 
@@ -20,23 +21,30 @@ enum Outcome {
     NoCase,
 }
 
-// The first refusal of a text by the stages built so far, each asked if those before it accept.
+// The first refusal of a text by the stages built so far: words, sentences and rules.
 fn stages(text: &[u8]) -> Verdict {
-    let words = lex::first_refusal(text);
-    match words {
-        Verdict::Accepted => syntax::first_refusal(text),
-        Verdict::Refused(_, _) => words,
-    }
+    rules::first_refusal(text)
 }
 
-// Whether a refusal is for the stages built so far: words (1, 2, 4) and sentences (3, and 18 for a body, at its brace).
+// Whether a refusal is for the stages built so far: words (1, 2, 4), sentences (3, and 18 for a body, at its brace) and rules (5 to 17,
+// and 18 for a definition, at its kind word).
 fn is_decided(text: &[u8], refusal: Refusal) -> bool {
     let number = refusal.number;
     match number {
-        1 | 2 | 3 | 4 => true,
-        18 => chars::byte_at(text, refusal.at) == b'{',
+        1..=17 => true,
+        18 => is_opening(text, refusal.at),
         _ => false,
     }
+}
+
+// Whether a brace or a kind word stands there.
+fn is_opening(text: &[u8], at: usize) -> bool {
+    if chars::byte_at(text, at) == b'{' {
+        return true;
+    }
+    let token = lex::next_token(text, at);
+    let word = token.word;
+    parts::is_kind(word)
 }
 
 fn none() -> Refusal {

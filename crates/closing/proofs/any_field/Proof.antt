@@ -1,0 +1,30 @@
+-- For all instances that stand there, some field of those left to look at breaks the rule exactly when one of all does.
+use borrow.Author.Needs.{needs}
+use Prim.Native.Nat.{_-_}
+use Rattle.closing.specs.Registers.{some}
+use Rattle.closing.proofs.Laws.{Asking, ask-start, next-fits, top-fits, find-here, find-on, find-end}
+use Rattle.closing.proofs.any_field.Statement.{statement}
+use Rattle.closing.proofs.any_field.Tie as tie
+
+abbrev Inv-loop : tie.InvT-loop
+Inv-loop text cells from to probe i₀ next₀ i next = Asking text cells from to next₀ (some probe) i next
+
+abbrev μ-loop : tie.MeasureT-loop
+μ-loop text cells from to probe i₀ next₀ i next = to - i
+
+pub any-field-spec : {M : Type 1} → statement M
+any-field-spec =
+    tie.close
+    (tie.spec
+    Inv-loop
+    μ-loop
+    (λ c. search (needs, ask-start))
+    (λ c κs. search needs)
+    (λ c κs. search (needs, next-fits))
+    (λ c κs. search (needs, top-fits))
+    (λ c. search find-here)
+    (λ c κs. search (needs, top-fits))
+    (λ c. search needs)
+    (λ c. search needs)
+    (λ c. search find-on)
+    (λ c. search find-end))

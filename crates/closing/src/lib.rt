@@ -1,0 +1,213 @@
+// What is judged at a closing brace: 10 for a missing instance, 12 for a field, 13 to 17 for a register.
+use components::BitPlace;
+use components::Component;
+use components::FieldAt;
+use components::FieldType;
+use components::Probe;
+use components::Register;
+use parts::Instance;
+use parts::InstanceReading;
+use parts::Kind;
+use suffixes::Fault;
+ghost use mathlib.Core.Path.{_≡_};
+ghost use mathlib.Core.List.{[]};
+ghost use Prim.Native.Nat.{_+_, _-_, _*_, _≤_, _<_};
+ghost use Rattle.closing.specs.Registers.{bitAbove, closingFault};
+ghost use Rattle.closing.specs.Relation.{topOf, PlacedAs, FieldIn, breaksIn, missingFault, AnyField, LaterOverlap, AnyOverlap, RegisterBreaks, Closes};
+
+// A field of a register, or an instance that is none.
+pub enum Placed {
+    Field(FieldAt),
+    Other,
+}
+
+// A field's instance at its place; an instance with unsound suffixes has none.
+fn place_field(next: BitPlace, instance: Instance, field: FieldType) -> Placed
+    requires { ⌜ next .0 < 4294967296 ⌝ }
+    ensures { λ r. ⌜ PlacedAs (Component.Field field) next instance r ⌝ }
+{
+    match suffixes::instance_fault(Kind::Field, instance) {
+        Fault::Sound => Placed::Field(components::field_at(next, instance, field)),
+        Fault::Broken(_, _) => Placed::Other,
+    }
+}
+
+// The instance of a component as a field, where `next` is the bit above the field before it.
+fn placed_as(component: Component, next: BitPlace, instance: Instance) -> Placed
+    requires { ⌜ next .0 < 4294967296 ⌝ }
+    ensures { λ r. ⌜ PlacedAs component next instance r ⌝ }
+{
+    match component {
+        Component::Field(field) => place_field(next, instance, field),
+        Component::Register(_) => Placed::Other,
+        Component::Regfile(_) => Placed::Other,
+        Component::Addrmap(_, _) => Placed::Other,
+    }
+}
+
+// The field of a cell.
+fn field_in(text: &[u8], cells: &[u64], entry: u64, next: BitPlace) -> Placed
+    requires { ⌜ next .0 < 4294967296 ⌝ }
+    ensures { λ r. ⌜ FieldIn (now (text .entry)) (now (cells .entry)) entry next r ⌝ }
+{
+    let component = table::component_at(cells, table::row_in(entry));
+    match parts::read_instance(text, table::place_in(entry)) {
+        InstanceReading::Done(instance, _) => placed_as(component, next, instance),
+        InstanceReading::Stop(_) => Placed::Other,
+    }
+}
+
+// Where the field behind this one starts.
+fn bit_above(placed: Placed, next: BitPlace) -> BitPlace
+    requires { ⌜ topOf placed < 4294967296 ⌝ }
+    ensures { λ r. ⌜ r ≡ bitAbove placed next ⌝ }
+{
+    match placed {
+        Placed::Field(field) => BitPlace(field.high.0 + 1),
+        Placed::Other => next,
+    }
+}
+
+fn breaks_in(probe: Probe, placed: Placed) -> bool
+    requires { ⌜ topOf placed < 4294967296 ⌝ }
+    ensures { λ r. ⌜ r ≡ breaksIn probe placed ⌝ }
+{
+    match placed {
+        Placed::Field(field) => components::breaks_rule(probe, field),
+        Placed::Other => false,
+    }
+}
+
+// Whether some field of a register breaks a rule: the cells from one up to another hold its fields, the first from the bit `first` on.
+fn any_field(
+    text: &[u8],
+    cells: &[u64],
+    from: usize,
+    to: usize,
+    first: BitPlace,
+    probe: Probe,
+) -> bool
+    requires { ⌜ (to ≤ 131072) × (first .0 + 64 * (to - from) < 4294967296) ⌝ }
+    ensures { λ r. ⌜ AnyField (now (text .entry)) (now (cells .entry)) from to first probe r ⌝ }
+{
+    let mut i = from;
+    let mut next = first;
+    while i < to {
+        let placed = field_in(text, cells, table::cell(cells, i), next);
+        if breaks_in(probe, placed) {
+            return true;
+        }
+        next = bit_above(placed, next);
+        i += 1;
+    }
+    false
+}
+
+// Whether a field overlaps a later one unlawfully; the cells hold the later ones, the first from the bit `first` on.
+fn overlaps_later(
+    text: &[u8],
+    cells: &[u64],
+    from: usize,
+    to: usize,
+    first: BitPlace,
+    placed: Placed,
+) -> bool
+    requires { ⌜ (to ≤ 131072) × (first .0 + 64 * (to - from) < 4294967296) ⌝ }
+    ensures { λ r. ⌜ LaterOverlap (now (text .entry)) (now (cells .entry)) from to first placed r ⌝ }
+{
+    match placed {
+        Placed::Field(field) => any_field(text, cells, from, to, first, Probe::Overlap(field)),
+        Placed::Other => false,
+    }
+}
+
+// Whether some field of a register overlaps a later one unlawfully.
+fn any_overlap(text: &[u8], cells: &[u64], from: usize, to: usize) -> bool
+    requires { ⌜ to ≤ 131072 ⌝ }
+    ensures { λ r. ⌜ AnyOverlap (now (text .entry)) (now (cells .entry)) from to r ⌝ }
+{
+    let mut i = from;
+    let mut next = BitPlace(0);
+    while i < to {
+        let placed = field_in(text, cells, table::cell(cells, i), next);
+        next = bit_above(placed, next);
+        i += 1;
+        if overlaps_later(text, cells, i, to, next, placed) {
+            return true;
+        }
+    }
+    false
+}
+
+// The smallest number of 13 to 17 that a register breaks, or 0.
+fn register_fault(text: &[u8], cells: &[u64], from: usize, to: usize, register: Register) -> u8
+    requires { ⌜ to ≤ 131072 ⌝ }
+    ensures { λ r. ⌜ RegisterBreaks (now (text .entry)) (now (cells .entry)) from to register r ⌝ }
+{
+    let bottom = BitPlace(0);
+    if any_field(text, cells, from, to, bottom, Probe::Wide) {
+        return 13;
+    }
+    if register.width < register.access {
+        return 14;
+    }
+    if any_field(
+        text,
+        cells,
+        from,
+        to,
+        bottom,
+        Probe::Outside(register.width),
+    ) {
+        return 15;
+    }
+    if any_overlap(text, cells, from, to) {
+        return 16;
+    }
+    if any_field(text, cells, from, to, bottom, Probe::Span(register.access)) {
+        return 17;
+    }
+    0
+}
+
+// 10 where there is no instance.
+fn missing_fault(from: usize, to: usize) -> u8
+    ensures { λ r. ⌜ r ≡ missingFault from to ⌝ }
+{
+    if from == to {
+        return 10;
+    }
+    0
+}
+
+fn register_closing(text: &[u8], cells: &[u64], from: usize, to: usize, register: Register) -> u8
+    requires { ⌜ to ≤ 131072 ⌝ }
+    ensures { λ r. ⌜ Closes (now (text .entry)) (now (cells .entry)) from to (Component.Register register) r ⌝ }
+{
+    if from == to {
+        return 10;
+    }
+    register_fault(text, cells, from, to, register)
+}
+
+fn field_closing(field: FieldType) -> u8
+    ensures { λ r. ⌜ r ≡ closingFault [] (Component.Field field) [] ⌝ }
+{
+    if components::has_unusable_effect(field) {
+        return 12;
+    }
+    0
+}
+
+// The smallest number that a body breaks at its closing brace, or 0; the cells from one up to another hold its instances.
+pub fn closing_fault(text: &[u8], cells: &[u64], from: usize, to: usize, component: Component) -> u8
+    requires { ⌜ to ≤ 131072 ⌝ }
+    ensures { λ r. ⌜ Closes (now (text .entry)) (now (cells .entry)) from to component r ⌝ }
+{
+    match component {
+        Component::Field(field) => field_closing(field),
+        Component::Register(register) => register_closing(text, cells, from, to, register),
+        Component::Regfile(_) => missing_fault(from, to),
+        Component::Addrmap(_, _) => missing_fault(from, to),
+    }
+}

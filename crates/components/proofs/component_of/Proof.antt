@@ -1,0 +1,20 @@
+use borrow.Author.Needs.{needs}
+use Rattle.components.specs.Components.{componentOf}
+use Rattle.components.proofs.component_of.Statement.{statement}
+use Rattle.components.proofs.component_of.Tie as tie
+
+pub component-of-spec : {M : Type 1} → statement M
+unfolding componentOf
+component-of-spec =
+    tie.close
+    (tie.spec
+    (λ c. search needs)
+    (λ c. search needs)
+    (λ c. search needs)
+    (λ c κs. search needs)
+    (λ c. search needs)
+    (λ c κs. search needs)
+    (λ c. rw (c .enum-told .given .1))
+    (λ c. rw (c .enum-told2 .given .1))
+    (λ c. rw (c .before .enum-told3 .given .1, c .register-of .ensures))
+    (λ c. rw (c .before .enum-told4 .given .1, c .field-type .ensures)))

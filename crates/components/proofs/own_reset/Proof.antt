@@ -1,0 +1,12 @@
+use borrow.Author.Needs.{needs}
+use Rattle.components.proofs.own_reset.Statement.{statement}
+use Rattle.components.proofs.own_reset.Tie as tie
+
+pub own-reset-spec : {M : Type 1} → statement M
+own-reset-spec =
+    tie.close
+    (tie.spec
+    (λ c. search needs)
+    (λ c. search needs)
+    (λ c. search needs)
+    (λ c. rw (c .before .suffix .given .1)))

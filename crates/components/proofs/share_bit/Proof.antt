@@ -1,0 +1,10 @@
+use borrow.Author.Tests.{lt-leb, le-leb}
+use Rattle.components.proofs.share_bit.Statement.{statement}
+use Rattle.components.proofs.share_bit.Tie as tie
+
+pub share-bit-spec : {M : Type 1} → statement M
+share-bit-spec =
+    tie.close
+    (tie.spec
+    (λ c. rw (lt-leb _ _ (c .if1 .taken)))
+    (λ c. rw (le-leb _ _ (c .before .before .if1 .left))))

@@ -1,0 +1,48 @@
+-- The components of a text with their effective values.
+use Prim.Native.Nat.{ℕ}
+use Rattle.parts.specs.declared.Kind.{Kind}
+use Rattle.parts.specs.declared.Kind.the-variants as kind
+use Rattle.settings.specs.Codes.{accessCode, readCode, writeCode}
+use Rattle.settings.specs.declared.Access.the-variants as access
+use Rattle.settings.specs.declared.ReadEffect.the-variants as onread
+use Rattle.settings.specs.declared.WriteEffect.the-variants as onwrite
+use Rattle.properties.specs.Assigned.{orElse}
+use Rattle.properties.specs.declared.Settings.{Settings}
+use Rattle.components.specs.declared.FieldType.{FieldType}
+use Rattle.components.specs.declared.Register.{Register}
+use Rattle.components.specs.declared.Component.{Component}
+use Rattle.components.specs.declared.Component.the-variants as component
+
+-- "both default to `rw`"; a field without an effect keeps what is read and takes what is written
+abbrev pub fieldType : Settings → FieldType
+fieldType s =
+    record {
+      sw = orElse (accessCode access.Rw) (s .sw);
+      hw = orElse (accessCode access.Rw) (s .hw);
+      onread = orElse (readCode onread.Kept) (s .onread);
+      onwrite = orElse (writeCode onwrite.Plain) (s .onwrite);
+      reset = s .reset;
+    }
+
+-- "A register without a width gets the standard's 32"
+abbrev pub standardWidth : ℕ
+standardWidth = 32
+
+-- "`accesswidth` defaults to `regwidth`"
+abbrev pub registerOf : Settings → Register
+registerOf s =
+    let width = orElse standardWidth (s .regwidth) in
+    record { width = width; access = orElse width (s .accesswidth) }
+
+-- a component of the effective settings of its body
+unfoldable pub componentOf : Kind → Settings → Component
+componentOf kind.Addrmap s = component.Addrmap (s .alignment) (s .addressing)
+componentOf kind.Regfile s = component.Regfile (s .alignment)
+componentOf kind.Reg s = component.Register (registerOf s)
+componentOf kind.Field s = component.Field (fieldType s)
+
+abbrev pub kindOf : Component → Kind
+kindOf (component.Field f) = kind.Field
+kindOf (component.Register r) = kind.Reg
+kindOf (component.Regfile a) = kind.Regfile
+kindOf (component.Addrmap a m) = kind.Addrmap

@@ -1,0 +1,11 @@
+use borrow.Author.Needs.{needs}
+use Rattle.places.proofs.closing_component.Statement.{statement}
+use Rattle.places.proofs.closing_component.Tie as tie
+
+pub closing-component-spec : {M : Type 1} → statement M
+closing-component-spec =
+    tie.close
+    (tie.spec
+    (λ c κs. search needs)
+    (λ c κs. search needs)
+    (λ c. rw (← c .before .nearest-of .ensures) (c .component-of .ensures)))

@@ -1,0 +1,12 @@
+use borrow.Author.Needs.{needs}
+use Rattle.properties.proofs.nearer_in.Statement.{statement}
+use Rattle.properties.proofs.nearer_in.Tie as tie
+
+pub nearer-in-spec : {M : Type 1} → statement M
+nearer-in-spec =
+    tie.close
+    (tie.spec
+    (λ c κs. search needs)
+    (λ c κs. search needs)
+    (λ c κs. search needs)
+    (λ c. rw (← c .before .before .given-in .ensures, ← c .before .given-in2 .ensures) (c .nearer-of .ensures)))

@@ -1,0 +1,12 @@
+use borrow.Author.Needs.{needs}
+use Rattle.properties.proofs.nearer_of.Statement.{statement}
+use Rattle.properties.proofs.nearer_of.Tie as tie
+
+pub nearer-of-spec : {M : Type 1} → statement M
+nearer-of-spec =
+    tie.close
+    (tie.spec
+    (λ c. search needs)
+    (λ c. search needs)
+    (λ c. search needs)
+    (λ c. rw (c .before .near .given .1)))

@@ -1,0 +1,39 @@
+-- Rules 7, 8 and 9: a property statement in a body.
+use mathlib.Core.Bool.{Bool, true, false, not}
+use mathlib.Core.List.{List}
+use Prim.Native.Nat.{ℕ}
+use Rattle.vocabulary.specs.Vocabulary.{propertyOf}
+use Rattle.vocabulary.specs.declared.PropertyLookup.{PropertyLookup}
+use Rattle.vocabulary.specs.declared.PropertyLookup.the-variants.{Known, Unknown}
+use Rattle.parts.specs.declared.Kind.{Kind}
+use Rattle.parts.specs.declared.Property.{Property as Statement}
+use Rattle.settings.specs.Settings.{isAllowed, slotOf, settingOf, valuePlace}
+use Rattle.settings.specs.declared.Slot.{Slot}
+use Rattle.settings.specs.declared.Setting.{Setting}
+use Rattle.settings.specs.declared.Setting.the-variants.{Set, Wrong}
+use Rattle.names.specs.Names.{bytesOf}
+use Rattle.properties.specs.Judged.{Judged, fault, fine, unless}
+use Rattle.properties.specs.Assigned.{givenIn, isGiven, settingsOf, assigned}
+use Rattle.properties.specs.declared.Assigned.{Assigned}
+use Rattle.properties.specs.declared.Outcome.{Outcome}
+use Rattle.properties.specs.declared.Outcome.the-variants.{Fault, Fine}
+
+-- 9: "value of wrong kind or range"
+unfoldable pub judgeValue : Assigned → Statement → Slot → Setting → Judged Assigned
+judgeValue a p l (Set n) = fine (assigned (p .defaulted) a l n)
+judgeValue a p l Wrong = fault 9 (valuePlace (p .start) (p .value))
+
+-- 7: "property unknown or not for this component or default"; 8: "set, or defaulted, twice in a body"
+unfoldable pub judgeKnown : Kind → Assigned → Statement → PropertyLookup → Judged Assigned
+judgeKnown k a p Unknown = fault 7 (p .start)
+judgeKnown k a p (Known q) =
+    unless (not (isAllowed (p .defaulted) q k)) 7 (p .start)
+    (unless (isGiven (givenIn (settingsOf (p .defaulted) a) (slotOf q))) 8 (p .start) (judgeValue a p (slotOf q) (settingOf q (p .value))))
+
+unfoldable pub judgeProperty : List ℕ → Kind → Assigned → Statement → Judged Assigned
+judgeProperty text k a p = judgeKnown k a p (propertyOf (bytesOf text (p .start) (p .end)))
+
+-- what an answer means
+abbrev pub judgedAs : Outcome → Judged Assigned
+judgedAs (Fault n p) = fault n p
+judgedAs (Fine a) = fine a

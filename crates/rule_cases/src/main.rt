@@ -1,0 +1,24 @@
+// Runs the rule cases of standard input (for each a little-endian u32 length, then the text) and writes a line for each: the first
+// refusal by the words, by the sentences if those pass, or by the rules if both pass. tests/rule_cases.py makes the cases.
+use testing::LONGEST_TEXT;
+use testing::MOST_CASES;
+
+// Runs the next case; answers whether there was one.
+fn run_case(case: u64, room: &mut [u8]) -> bool {
+    let text = testing::read_text(room);
+    let length = text.length;
+    if text.whole {
+        testing::put_number(b"", case);
+        testing::put_verdict(rules::first_refusal(&room[..length]));
+    }
+    text.whole
+}
+
+fn main() {
+    let mut space = [0u8; LONGEST_TEXT];
+    let room: &mut [u8] = &mut space;
+    let mut case = 0;
+    while case < MOST_CASES && run_case(case, room) {
+        case += 1;
+    }
+}

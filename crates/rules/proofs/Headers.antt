@@ -1,0 +1,74 @@
+-- The head of a definition: the faults before its body.
+use mathlib.Core.Path.{_≡_, refl, sym, ap, _∙_}
+use mathlib.Core.Bool.{Bool, true, false, not, _||_}
+use mathlib.Core.List.{List, [], _∷_}
+use Prim.Native.Nat.{ℕ, zero, suc, _+_, _<_, _≤_}
+use native.Mathlib.Omega.{arith}
+use lib.Dec.{leb}
+use borrow.Author.Tests.{le-leb, lt-leb}
+use Rattle.parts.specs.declared.Name.{Name}
+use Rattle.parts.specs.declared.Header.{Header}
+use Rattle.parts.specs.declared.DefinedName.{DefinedName}
+use Rattle.parts.specs.declared.DefinedName.the-variants.{Unnamed, Named}
+use Rattle.suffixes.specs.declared.Fault.{Fault}
+use Rattle.suffixes.specs.declared.Fault.the-variants.{Sound, Broken}
+use Rattle.properties.specs.Judged.{Judged, fault, fine, unless}
+use Rattle.properties.specs.Assigned.{isGiven}
+use Rattle.properties.specs.declared.Given.{Given}
+use Rattle.table.specs.Definitions.{Entry, lookup}
+use Rattle.table.specs.Relation.{Chain, Finds}
+use Rattle.places.specs.Places.{mayDefine, isBadMap}
+use Rattle.places.specs.declared.Walk.{Walk}
+use Rattle.places.specs.declared.Scope.{Scope}
+use Rattle.rules.specs.Limits.{definitionLimit}
+use Rattle.rules.specs.Judge.{State, typeTwice, namePlace, found}
+use Rattle.rules.specs.Standing.{Standing, HeaderFault, NameFault}
+
+module _ (text t : List ℕ) (base head : ℕ) (name : DefinedName) where
+  pub name-unnamed : name ≡ Unnamed → NameFault text t base head name Sound
+  unfolding unless
+  name-unnamed e = record { each = λ here c rest. rw e }
+
+  module _ {n : Name} {m : Given} {b : Bool} (e : name ≡ Named n) (f : Finds text t head base n m) (g : b ≡ isGiven m) where
+    pub name-twice : b ≡ true → NameFault text t base head name (Broken 6 (n .start))
+    unfolding unless
+    name-twice y = record { each = λ here c rest. rw (e, ← f .each here c, ← g, y) }
+
+    pub name-once : b ≡ false → NameFault text t base head name Sound
+    unfolding unless
+    name-once y = record { each = λ here c rest. rw (e, ← f .each here c, ← g, y) }
+
+module _ (text t : List ℕ) (scope : Scope) (w : Walk) (h : Header) {d : Bool} (e : d ≡ mayDefine (scope .place) (h .kind)) where
+  pub header-kind : d ≡ false → HeaderFault text t scope w h (Broken 10 (h .place))
+  unfolding unless
+  header-kind y =
+      record {
+        low = λ z. absurd (let o : _≡_ {A = ℕ} 0 1 = cc in omega arith);
+        each = λ s st rest. rw (sym e ∙ y);
+      }
+
+  module _ (f : d ≡ true) {b : Bool} (g : b ≡ isBadMap (w .map) h) where
+    pub header-map : b ≡ true → HeaderFault text t scope w h (Broken 10 (h .place))
+    unfolding unless
+    header-map y =
+        record {
+          low = λ z. absurd (let o : _≡_ {A = ℕ} 0 1 = cc in omega arith);
+          each = λ s st rest. rw (sym e ∙ f, ← st .map, sym g ∙ y);
+        }
+
+    module _ (k : b ≡ false) where
+      pub header-limit : definitionLimit ≤ w .opened → HeaderFault text t scope w h (Broken 18 (h .place))
+      unfolding unless
+      header-limit y =
+          record {
+            low = λ z. absurd (let o : _≡_ {A = ℕ} 0 1 = cc in omega arith);
+            each = λ s st rest. rw (sym e ∙ f, ← st .map, sym g ∙ k, ← st .opened, le-leb definitionLimit (w .opened) y);
+          }
+
+      pub header-name : {r : Fault} → w .opened < definitionLimit → NameFault text t (scope .base) (w .head) (h .name) r → HeaderFault text t scope w h r
+      unfolding unless
+      header-name y n =
+          record {
+            low = λ z. y;
+            each = λ s st rest. rw (sym e ∙ f, ← st .map, sym g ∙ k, ← st .opened, lt-leb definitionLimit (w .opened) y) (n .each (s .known .here) (st .types) rest);
+          }

@@ -1,0 +1,103 @@
+-- The stages one after another, and what the cells say.
+use mathlib.Core.Path.{_≡_, refl, sym, ap, _∙_}
+use mathlib.Core.Bool.{Bool, true, false}
+use mathlib.Core.List.{List, [], _∷_}
+use Prim.Native.Nat.{ℕ, zero, suc, _+_, _<_, _≤_}
+use native.Mathlib.Omega.{arith}
+use lib.Dec.{ltb}
+use lib.ListN.{length, getD}
+use borrow.Author.Tests.{ltb-false, lt-ltb, le-ltb}
+use Rattle.chars.specs.Choice.{if_then_else_}
+use Rattle.lex.specs.Limits.{textLimit}
+use Rattle.lex.specs.Words.{refused, wordsVerdict, firstBad}
+use Rattle.lex.specs.declared.Place.{Place as TextPlace}
+use Rattle.lex.specs.declared.Verdict.{Verdict}
+use Rattle.lex.specs.declared.Verdict.the-variants.{Accepted, Refused}
+use Rattle.parts.specs.Reading.{Parsed, ok, stop}
+use Rattle.parts.specs.Parts.{instanceAt}
+use Rattle.syntax.specs.Tree.{Body}
+use Rattle.syntax.specs.Grammar.{fileAt}
+use Rattle.syntax.specs.Answers.{answerOf, verdictOf as sentenceVerdictOf, sentenceVerdict}
+use Rattle.properties.specs.Judged.{Judged, fault, fine}
+use Rattle.table.specs.Cells.{cellOf, filedAt, size, componentIn, firstIn, countIn, placeIn, rowIn}
+use Rattle.table.specs.Definitions.{Child, Definition, noDefinition}
+use Rattle.table.specs.Relation.{IsEntry, Block, block-end, block-on, IsRow, Holds}
+use Rattle.places.specs.Walks.{verdictOf}
+use Rattle.places.specs.declared.Ruling.{Ruling}
+use Rattle.places.specs.declared.Ruling.the-variants as ruling
+use Rattle.rules.specs.Judge.{Meaning, judge}
+use Rattle.rules.specs.Standing.{FileMatches, file-fault, file-map, Rules}
+use Rattle.rules.specs.Rules.{afterWords, afterSentences, ruled, ruledIn, judgedVerdict, rulesVerdict, withInstance, instancesIn, definitionIn, definitionsIn, ruledAs}
+
+-- the cells say what they hold
+pub instances-said : {text t : List ℕ} {i : ℕ} {cs : List Child} → Block text t i cs → instancesIn text t i (length cs) ≡ cs
+unfolding instancesIn
+instances-said block-end = refl
+instances-said (block-on e b) = rw (e .reads, e .type, instances-said b)
+
+pub definition-said : {text t : List ℕ} {filed r : ℕ} {d : Definition} → IsRow text t filed r d → definitionIn text t r ≡ d
+definition-said w = rw (w .component, w .count, instances-said (w .instances))
+
+definitions-said : (text t : List ℕ) (r : ℕ) (table : List Definition) → ((j : ℕ) → j < length table → definitionIn text t (r + j) ≡ getD table j noDefinition) → definitionsIn text t r (length table) ≡ table
+unfolding definitionsIn
+definitions-said text t r [] each = refl
+definitions-said text t r (d ∷ table) each =
+    let z : r + 0 ≡ r = omega arith in
+    let e : definitionIn text t r ≡ d = rw z at (each 0 (omega arith)) in
+    rw (e, definitions-said text t (suc r) table (λ j l. let y : r + suc j ≡ suc r + j = omega arith in rw y at (each (suc j) (omega (arith, l)))))
+
+pub table-said : {text t : List ℕ} {closed filed : ℕ} {table : List Definition} → Holds text t closed filed table → definitionsIn text t 0 closed ≡ table
+table-said {text} {t} {table = table} h = rw (← h .count) (definitions-said text t 0 table (λ j l. let z : 0 + j ≡ j = omega arith in rw z (definition-said (h .each j (omega (arith, l, h .count))))))
+
+-- a text that the word stage accepts is short
+pub words-short : (text : List ℕ) {v : Verdict} → v ≡ wordsVerdict text → v ≡ Accepted → length text ≤ 65536
+unfolding wordsVerdict
+words-short text e f = by (ltb textLimit (length text)) refl (sym e ∙ f)
+  where
+    by : (b : Bool) → ltb textLimit (length text) ≡ b → (if b then refused 1 0 else firstBad (length text + 1) text 0) ≡ Accepted → length text ≤ 65536
+    by true q r = absurd (let z : _≡_ {A = ℕ} 0 1 = cc in omega arith)
+    by false q r = ltb-false textLimit (length text) q
+
+-- with few cells, and with enough
+pub ruled-few : (text : List ℕ) (n : ℕ) → n < size → fault 22 0 ≡ ruledIn n text
+unfolding ruledIn
+ruled-few text n l = rw (lt-ltb n size l)
+
+pub ruled-enough : (text : List ℕ) (n : ℕ) → size ≤ n → ruled text ≡ ruledIn n text
+unfolding ruledIn
+ruled-enough text n l = rw (le-ltb n size l)
+
+-- the stages
+module _ (text t : List ℕ) {v : Verdict} (e : v ≡ wordsVerdict text) where
+  pub ruled-words : {n : ℕ} {p : TextPlace} → v ≡ Refused n p → ruledAs text t (ruling.Fault n (p .at)) ≡ ruled text
+  unfolding ruled
+  ruled-words f = rw (sym e ∙ f)
+
+  module _ (f : v ≡ Accepted) {w : Verdict} (g : w ≡ sentenceVerdict text) where
+    pub ruled-sentences : {n : ℕ} {p : TextPlace} → w ≡ Refused n p → ruledAs text t (ruling.Fault n (p .at)) ≡ ruled text
+    unfolding ruled sentenceVerdict answerOf
+    ruled-sentences {n} {p} h = rw (sym e ∙ f) (by (fileAt text) (sym g ∙ h))
+      where
+        by : (x : Parsed Body) → sentenceVerdictOf (answerOf x) ≡ Refused n p → fault n (p .at) ≡ afterSentences text x
+        by (ok b m) q = absurd (let z : _≡_ {A = ℕ} 0 1 = cc in omega arith)
+        by (stop m q) r = let a : m ≡ n = cc in let b : q ≡ p .at = cc in rw (a, b)
+
+    pub ruled-rules : {t₀ : List ℕ} {r : Ruling} → w ≡ Accepted → size ≤ length t₀ → Rules text t₀ t r → ruledAs text t r ≡ ruled text
+    unfolding ruled sentenceVerdict answerOf
+    ruled-rules {t₀} {r} h l x = rw (sym e ∙ f) (by (fileAt text) refl (sym g ∙ h))
+      where
+        matched : {j : Judged Meaning} {r : Ruling} → FileMatches text t j r → ruledAs text t r ≡ j
+        matched file-fault = refl
+        matched (file-map {m = m} k) = rw (table-said k)
+
+        by : (y : Parsed Body) → fileAt text ≡ y → sentenceVerdictOf (answerOf y) ≡ Accepted → ruledAs text t r ≡ afterSentences text y
+        by (ok b n) q z = matched (x .each b n l q)
+        by (stop n p) q z = absurd (let o : _≡_ {A = ℕ} 0 1 = cc in omega arith)
+
+pub verdict-ruled : (text t : List ℕ) (n : ℕ) (r : Ruling) {v : Verdict} → size ≤ n → ruledAs text t r ≡ ruledIn n text → v ≡ verdictOf r → v ≡ rulesVerdict text
+unfolding rulesVerdict
+verdict-ruled text t n r l e f = f ∙ by r ∙ ap judgedVerdict (e ∙ sym (ruled-enough text n l))
+  where
+    by : (r : Ruling) → verdictOf r ≡ judgedVerdict (ruledAs text t r)
+    by (ruling.Fault n p) = refl
+    by (ruling.Map row closed filed) = refl

@@ -1,0 +1,67 @@
+-- The rules stage of a text: the first refusal by words, sentences and rules, or what the text means; and what the cells say of it.
+use mathlib.Core.List.{List, [], _∷_}
+use mathlib.Core.Bool.{Bool, true, false}
+use Prim.Native.Nat.{ℕ, zero, suc, _+_}
+use lib.Dec.{ltb}
+use Rattle.chars.specs.Choice.{if_then_else_}
+use Rattle.lex.specs.Words.{refused, wordsVerdict}
+use Rattle.lex.specs.declared.Verdict.{Verdict}
+use Rattle.lex.specs.declared.Verdict.the-variants.{Accepted, Refused}
+use Rattle.parts.specs.Reading.{Parsed, ok, stop}
+use Rattle.parts.specs.Parts.{instanceAt}
+use Rattle.parts.specs.declared.Instance.{Instance}
+use Rattle.syntax.specs.Tree.{Body}
+use Rattle.syntax.specs.Grammar.{fileAt}
+use Rattle.properties.specs.Judged.{Judged, fault, fine}
+use Rattle.table.specs.Cells.{cellOf, filedAt, size, componentIn, firstIn, countIn, placeIn, rowIn}
+use Rattle.table.specs.Definitions.{Child, Definition}
+use Rattle.places.specs.declared.Ruling.{Ruling}
+use Rattle.places.specs.declared.Ruling.the-variants as ruling
+use Rattle.rules.specs.Judge.{Meaning, judge}
+
+-- "1; then words (2, 4); then 3 and 18 for bodies, whichever stands first; then 5 to 17 and 18 for definitions"
+abbrev pub afterWords : Verdict → Judged Meaning → Judged Meaning
+afterWords Accepted rest = rest
+afterWords (Refused n p) rest = fault n (p .at)
+
+abbrev pub afterSentences : List ℕ → Parsed Body → Judged Meaning
+afterSentences text (ok b n) = judge text b
+afterSentences text (stop n p) = fault n p
+
+unfoldable pub ruled : List ℕ → Judged Meaning
+ruled text = afterWords (wordsVerdict text) (afterSentences text (fileAt text))
+
+-- with so many cells to work in: 22 where they are too few
+unfoldable pub ruledIn : ℕ → List ℕ → Judged Meaning
+ruledIn cells text = if ltb cells size then fault 22 0 else ruled text
+
+-- the first refusal, or none
+abbrev pub judgedVerdict : Judged Meaning → Verdict
+judgedVerdict (fault n p) = refused n p
+judgedVerdict (fine m) = Accepted
+
+unfoldable pub rulesVerdict : List ℕ → Verdict
+rulesVerdict text = judgedVerdict (ruled text)
+
+-- what the cells say: the instances in `count` cells from the index `i` on, each read at its place in the text
+abbrev pub withInstance : ℕ → Parsed Instance → List Child → List Child
+withInstance row (ok i n) rest = record { instance = i; type = row } ∷ rest
+withInstance row (stop n p) rest = rest
+
+unfoldable pub instancesIn : List ℕ → List ℕ → ℕ → ℕ → List Child
+instancesIn text t i zero = []
+instancesIn text t i (suc count) = withInstance (rowIn (cellOf t i)) (instanceAt text (placeIn (cellOf t i))) (instancesIn text t (suc i) count)
+
+-- the definition of a row
+abbrev pub definitionIn : List ℕ → List ℕ → ℕ → Definition
+definitionIn text t r = record { component = componentIn t r; instances = instancesIn text t (filedAt + firstIn t r) (countIn t r) }
+
+-- the definitions of `count` rows from the row `r` on
+unfoldable pub definitionsIn : List ℕ → List ℕ → ℕ → ℕ → List Definition
+definitionsIn text t r zero = []
+definitionsIn text t r (suc count) = definitionIn text t r ∷ definitionsIn text t (suc r) count
+
+-- what an answer means, with the cells
+abbrev pub ruledAs : List ℕ → List ℕ → Ruling → Judged Meaning
+ruledAs text t (ruling.Fault n p) = fault n p
+ruledAs text t (ruling.Map row closed filed) = fine (record { table = definitionsIn text t 0 closed; map = row })

@@ -1,0 +1,288 @@
+-- Laws of the cells, in the form that the proofs use.
+use mathlib.Core.Bool.{Bool, true, false}
+use mathlib.Core.Path.{_≡_, refl, sym, _∙_}
+use mathlib.Core.List.{List, [], _∷_}
+use Prim.Native.Nat.{ℕ, zero, suc, _+_, _-_, _*_, _<_, _≤_}
+use native.Mathlib.Numerals.{add-one}
+use native.Mathlib.Omega.{arith}
+use lib.ListN.{length, set, getD, length-set}
+use lib.Seq.{getD-set-same, getD-set-other}
+use borrow.Author.Tests.{eq-eqb, ne-eqb, lt-ltb, le-ltb}
+use Rattle.parts.specs.Reading.{ok}
+use Rattle.parts.specs.Parts.{instanceAt}
+use Rattle.parts.specs.Answers.{instanceRead}
+use Rattle.parts.specs.declared.Name.{Name}
+use Rattle.parts.specs.declared.Instance.{Instance}
+use Rattle.parts.specs.declared.InstanceReading.{InstanceReading}
+use Rattle.parts.specs.declared.InstanceReading.the-variants as instanceReading
+use Rattle.names.specs.Names.{sameName, isAmong, fingerprint}
+use Rattle.names.proofs.Laws.{other-print}
+use Rattle.properties.specs.declared.Given.{Given}
+use Rattle.properties.specs.declared.Given.the-variants.{Nothing, Number}
+use Rattle.components.specs.declared.Component.{Component}
+use Rattle.components.specs.declared.Component.the-variants as component
+use Rattle.table.specs.declared.Values.{Values}
+use Rattle.table.specs.declared.Row.{Row}
+use Rattle.table.specs.Cells.{cellOf, givenFrom, flagOf, numberOf, componentFrom, valuesOf, nameIn, belowIn, valueCells, otherCells, written, entryOf, placeIn, rowIn, printIn, moved}
+use Rattle.table.specs.Definitions.{Child, Entry, lookup, namesOf}
+use Rattle.table.specs.Relation.{Block, block-end, block-on, Chain, chain-stop, chain-on, Finds, NamedAt, EntryNamed, Among}
+
+-- an instance in a cell
+pub entry-place : (p r q : ℕ) → p < 131072 → r < 256 → placeIn (entryOf p r q) ≡ p
+unfolding placeIn entryOf
+entry-place p r q h k = omega arith
+
+pub entry-row : (p r q : ℕ) → p < 131072 → r < 256 → rowIn (entryOf p r q) ≡ r
+unfolding rowIn entryOf
+entry-row p r q h k = omega arith
+
+pub entry-print : (p r q : ℕ) → p < 131072 → r < 256 → printIn (entryOf p r q) ≡ q
+unfolding printIn entryOf
+entry-print p r q h k = omega arith
+
+-- a component in cells
+given-back : (g : Given) → givenFrom (flagOf g) (numberOf g) ≡ g
+given-back Nothing = refl
+given-back (Number n) = refl
+
+pub values-component : (c : Component) → componentFrom (valuesOf c) ≡ c
+unfolding componentFrom
+values-component (component.Field f) = rw (given-back (f .reset))
+values-component (component.Register r) = refl
+values-component (component.Regfile l) = rw (given-back l)
+values-component (component.Addrmap l m) = rw (given-back l, given-back m)
+
+module _ (v : Values) where
+  pub component-field : {g : Given} → v .kind ≡ 3 → g ≡ givenFrom (v .e) (v .f)
+      → component.Field (record { sw = v .a; hw = v .b; onread = v .c; onwrite = v .d; reset = g }) ≡ componentFrom v
+  unfolding componentFrom
+  component-field e f = rw (eq-eqb (v .kind) 3 e, f)
+
+  module _ (e : v .kind ≡ 3 → ⊥) where
+    pub component-register : v .kind ≡ 2 → component.Register (record { width = v .a; access = v .b }) ≡ componentFrom v
+    unfolding componentFrom
+    component-register f = rw (ne-eqb (v .kind) 3 e, eq-eqb (v .kind) 2 f)
+
+    module _ {g : Given} (f : v .kind ≡ 2 → ⊥) (h : g ≡ givenFrom (v .a) (v .b)) where
+      pub component-regfile : v .kind ≡ 1 → component.Regfile g ≡ componentFrom v
+      unfolding componentFrom
+      component-regfile k = rw (ne-eqb (v .kind) 3 e, ne-eqb (v .kind) 2 f, eq-eqb (v .kind) 1 k, h)
+
+      pub component-map : {i : Given} → (v .kind ≡ 1 → ⊥) → i ≡ givenFrom (v .c) (v .d) → component.Addrmap g i ≡ componentFrom v
+      unfolding componentFrom
+      component-map k l = rw (ne-eqb (v .kind) 3 e, ne-eqb (v .kind) 2 f, ne-eqb (v .kind) 1 k, h, l)
+
+-- the type declared before
+module _ (t : List ℕ) (row : ℕ) {b : ℕ} (e : b ≡ cellOf t (row * 16 + 11)) where
+  pub below-own : row < b → row ≡ belowIn t row
+  unfolding belowIn
+  below-own h = rw (← e, lt-ltb row b h)
+
+  pub below-cell : b ≤ row → b ≡ belowIn t row
+  unfolding belowIn
+  below-cell h = rw (← e, le-ltb row b h)
+
+-- cells in a row, written
+pub written-length : (t : List ℕ) (i : ℕ) (xs : List ℕ) → length (written t i xs) ≡ length t
+unfolding written
+written-length t i [] = refl
+written-length t i (x ∷ xs) = written-length (set t i x) (i + 1) xs ∙ length-set t i x
+
+pub written-other : (t : List ℕ) (i : ℕ) (xs : List ℕ) (j : ℕ) → (i ≤ j → i + length xs ≤ j) → cellOf (written t i xs) j ≡ cellOf t j
+unfolding written
+written-other t i [] j h = refl
+written-other t i (x ∷ xs) j h =
+    written-other (set t i x) (i + 1) xs j (λ l. let w : i + suc (length xs) ≤ j = h (omega arith) in omega arith)
+    ∙ getD-set-other t i j x 0 (λ e. let w : i + suc (length xs) ≤ j = h (omega arith) in omega arith)
+
+pub written-same : (t : List ℕ) (i : ℕ) (xs : List ℕ) (k : ℕ) → i + length xs ≤ length t → k < length xs → cellOf (written t i xs) (i + k) ≡ getD xs k 0
+unfolding written
+written-same t i [] k h l = absurd (omega arith)
+written-same t i (x ∷ xs) zero h l =
+    let n : i + 0 ≡ i = omega arith in
+    rw n (written-other (set t i x) (i + 1) xs i (λ m. absurd (omega arith)) ∙ getD-set-same t i x 0 (omega arith))
+written-same t i (x ∷ xs) (suc k) h l =
+    let n : i + suc k ≡ i + 1 + k = omega arith in
+    let m : i + 1 + length xs ≤ length (set t i x) = rw (length-set t i x) (omega arith) in
+    rw n (written-same (set t i x) (i + 1) xs k m (omega arith))
+
+-- a row's cells, put one after another
+pub values-put : (t : List ℕ) (i : ℕ) (v : Values) {t1 t2 t3 t4 t5 t6 t7 : List ℕ} → t1 ≡ set t i (v .kind) → t2 ≡ set t1 (i + 1) (v .a) → t3 ≡ set t2 (i + 2) (v .b)
+    → t4 ≡ set t3 (i + 3) (v .c) → t5 ≡ set t4 (i + 4) (v .d) → t6 ≡ set t5 (i + 5) (v .e) → t7 ≡ set t6 (i + 6) (v .f) → t7 ≡ written t i (valueCells v)
+unfolding written
+values-put t i v e1 e2 e3 e4 e5 e6 e7 =
+    let n2 : i + 1 + 1 ≡ i + 2 = omega arith in
+    let n3 : i + 2 + 1 ≡ i + 3 = omega arith in
+    let n4 : i + 3 + 1 ≡ i + 4 = omega arith in
+    let n5 : i + 4 + 1 ≡ i + 5 = omega arith in
+    let n6 : i + 5 + 1 ≡ i + 6 = omega arith in
+    rw (n2, n3, n4, n5, n6, e7, e6, e5, e4, e3, e2, e1)
+
+pub row-put : (t : List ℕ) (i : ℕ) (r : Row) {t0 t1 t2 t3 t4 t5 : List ℕ} → t0 ≡ written t i (valueCells (r .values)) → t1 ≡ set t0 (i + 7) (r .first) → t2 ≡ set t1 (i + 8) (r .count)
+    → t3 ≡ set t2 (i + 9) (r .name .start) → t4 ≡ set t3 (i + 10) (r .name .end) → t5 ≡ set t4 (i + 11) (r .below) → t5 ≡ written (written t i (valueCells (r .values))) (i + 7) (otherCells r)
+unfolding written
+row-put t i r e0 e1 e2 e3 e4 e5 =
+    let n8 : i + 7 + 1 ≡ i + 8 = omega arith in
+    let n9 : i + 8 + 1 ≡ i + 9 = omega arith in
+    let n10 : i + 9 + 1 ≡ i + 10 = omega arith in
+    let n11 : i + 10 + 1 ≡ i + 11 = omega arith in
+    rw (n8, n9, n10, n11, e5, e4, e3, e2, e1, e0)
+
+-- cells moved
+pub moved-length : (t : List ℕ) (from to count : ℕ) → length (moved t from to count) ≡ length t
+unfolding moved
+moved-length t from to zero = refl
+moved-length t from to (suc count) = moved-length (set t to (cellOf t from)) (from + 1) (to + 1) count ∙ length-set t to (cellOf t from)
+
+pub moved-other : (t : List ℕ) (from to count j : ℕ) → (to ≤ j → to + count ≤ j) → cellOf (moved t from to count) j ≡ cellOf t j
+unfolding moved
+moved-other t from to zero j h = refl
+moved-other t from to (suc count) j h =
+    moved-other (set t to (cellOf t from)) (from + 1) (to + 1) count j (λ l. let w : to + suc count ≤ j = h (omega arith) in omega arith)
+    ∙ getD-set-other t to j (cellOf t from) 0 (λ e. let w : to + suc count ≤ j = h (omega arith) in omega arith)
+
+pub moved-same : (t : List ℕ) (from to count k : ℕ) → to + count ≤ from → from + count ≤ length t → k < count → cellOf (moved t from to count) (to + k) ≡ cellOf t (from + k)
+unfolding moved
+moved-same t from to zero k h l m = absurd (omega arith)
+moved-same t from to (suc count) zero h l m =
+    let n : to + 0 ≡ to = omega arith in
+    let n′ : from + 0 ≡ from = omega arith in
+    rw (n, n′) (moved-other (set t to (cellOf t from)) (from + 1) (to + 1) count to (λ l. absurd (omega arith)) ∙ getD-set-same t to (cellOf t from) 0 (omega arith))
+moved-same t from to (suc count) (suc k) h l m =
+    let n : to + suc k ≡ to + 1 + k = omega arith in
+    let n′ : from + suc k ≡ from + 1 + k = omega arith in
+    let w : from + 1 + count ≤ length (set t to (cellOf t from)) = rw (length-set t to (cellOf t from)) (omega arith) in
+    rw (n, n′) (moved-same (set t to (cellOf t from)) (from + 1) (to + 1) count k (omega arith) w (omega arith)
+    ∙ getD-set-other t to (from + 1 + k) (cellOf t from) 0 (λ e. omega arith))
+
+-- what is left to move comes to x
+module _ (from to count : ℕ) where
+  pub move-start : (t : List ℕ) → moved t (from + 0) (to + 0) (count - 0) ≡ moved t from to count
+  move-start t =
+      let a : from + 0 ≡ from = omega arith in
+      let b : to + 0 ≡ to = omega arith in
+      let c : count - 0 ≡ count = omega arith in
+      rw (a, b, c)
+
+  module _ (t : List ℕ) (k : ℕ) {x : List ℕ} (at : moved t (from + k) (to + k) (count - k) ≡ x) where
+    pub move-end : count ≤ k → t ≡ x
+    unfolding moved
+    move-end h = let n : count - k ≡ 0 = omega arith in rw n at at
+
+    pub move-next : {u : List ℕ} {v : ℕ} → k < count → v ≡ cellOf t (from + k) → u ≡ set t (to + k) v → moved u (from + (k + 1)) (to + (k + 1)) (count - (k + 1)) ≡ x
+    unfolding moved
+    move-next h e f =
+        let n : count - k ≡ suc (count - (k + 1)) = omega arith in
+        let a : from + (k + 1) ≡ from + k + 1 = omega arith in
+        let b : to + (k + 1) ≡ to + k + 1 = omega arith in
+        rw (f, e, a, b) (rw n at at)
+
+-- the types that are left to look at, and what the name means among them
+pub record Seen (text t : List ℕ) (stop : ℕ) (name : Name) (at : ℕ) (answer : Given) : Type 0 where
+  pub types : List Entry
+  pub chain : Chain t stop at types
+  pub same : lookup text name types ≡ answer
+
+pub record Seeking (text t : List ℕ) (head stop : ℕ) (name : Name) (at : ℕ) : Type 0 where
+  pub low : at ≤ 256
+  pub below : at ≤ head
+  pub each : (es : List Entry) → Chain t stop head es → Seen text t stop name at (lookup text name es)
+
+module _ (text t : List ℕ) (stop : ℕ) (name : Name) where
+  chain-end : {at : ℕ} {es : List Entry} {x : Given} → at ≤ stop → Chain t stop at es → lookup text name es ≡ x → Nothing ≡ x
+  unfolding lookup
+  chain-end h chain-stop e = e
+  chain-end h (chain-on l n b c) e = absurd (omega arith)
+
+  chain-here : {at row : ℕ} {es : List Entry} {x : Given} → stop < at → row ≡ at - 1 → sameName text name (nameIn t row) ≡ true → Chain t stop at es → lookup text name es ≡ x → Number row ≡ x
+  unfolding lookup
+  chain-here h r s chain-stop e = absurd (omega arith)
+  chain-here {row = row} h r s (chain-on {e = f} l n b c) e =
+      let m : f .row ≡ row = omega arith in
+      let q : sameName text name (f .name) ≡ true = rw (← n, m) s in
+      rw (← m) (rw q at e)
+
+  chain-next : {at row : ℕ} {es : List Entry} {x : Given} → stop < at → row ≡ at - 1 → sameName text name (nameIn t row) ≡ false → Chain t stop at es → lookup text name es ≡ x → Seen text t stop name (belowIn t row) x
+  unfolding lookup
+  chain-next h r s chain-stop e = absurd (omega arith)
+  chain-next {row = row} h r s (chain-on {e = f} {es = es} l n b c) e =
+      let m : f .row ≡ row = omega arith in
+      let q : sameName text name (f .name) ≡ false = rw (← n, m) s in
+      record { types = es; chain = rw (← m) c; same = rw q at e }
+
+  module _ (head : ℕ) where
+    pub seek-start : head ≤ 256 → Seeking text t head stop name head
+    seek-start h = record { low = h; below = omega arith; each = λ es c. record { types = es; chain = c; same = refl } }
+
+    module _ {at : ℕ} (s : Seeking text t head stop name at) where
+      pub seek-end : at ≤ stop → Finds text t head stop name Nothing
+      seek-end h = record { low = λ d q. absurd (let z : _≡_ {A = ℕ} 0 1 = cc in omega arith); each = λ es c. let r = s .each es c in chain-end h (r .chain) (r .same) }
+
+      module _ {row : ℕ} {other : Name} {b : Bool} (h : stop < at) (e : row ≡ at - 1) (f : other ≡ nameIn t row) (g : b ≡ sameName text name other) where
+        pub seek-here : b ≡ true → Finds text t head stop name (Number row)
+        seek-here y = record { low = λ d q. let z : row ≡ d = cc in let l = s .below in omega arith; each = λ es c. let r = s .each es c in chain-here h e (rw (← f) (sym g ∙ y)) (r .chain) (r .same) }
+
+        pub seek-on : {below : ℕ} → b ≡ false → (below ≡ belowIn t row) × (below ≤ row) → Seeking text t head stop name below
+        seek-on y z =
+            let l = s .low in
+            let m = s .below in
+            record { low = omega (arith, z .1); below = omega (arith, z .1); each = λ es c. let r = s .each es c in rw (z .0) (chain-next h e (rw (← f) (sym g ∙ y)) (r .chain) (r .same)) }
+
+-- the instance at a place
+module _ (text : List ℕ) (place : ℕ) (name : Name) {x : InstanceReading} (e : instanceRead x ≡ instanceAt text place) where
+  pub named-done : {i : Instance} {n : ℕ} {r : Bool} → x ≡ instanceReading.Done i n → r ≡ sameName text name (i .name) → NamedAt text place name r
+  named-done {i} {n} f g = record { each = λ j next h. let w : ok i n ≡ ok j next = (rw f at e) ∙ h in let q : i ≡ j = cc in rw (g, q) }
+
+  pub named-stop : {q : ℕ} {r : Bool} → x ≡ instanceReading.Stop q → NamedAt text place name r
+  named-stop f = record { each = λ j next h. absurd (let z : _≡_ {A = ℕ} 0 1 = cc in omega arith) }
+
+-- the instance of a cell
+module _ (text : List ℕ) (x : ℕ) (name : Name) where
+  pub print-other : {print p : ℕ} → print ≡ fingerprint text name → p ≡ printIn x → (p ≡ print → ⊥) → EntryNamed text x name false
+  print-other e f g = record { each = λ c h. sym (other-print text name (c .instance .name) (λ q. g (f ∙ h .print ∙ sym q ∙ sym e))) }
+
+  pub print-same : {place : ℕ} {r : Bool} → place ≡ placeIn x → NamedAt text place name r → EntryNamed text x name r
+  print-same e n = record { each = λ c h. n .each (c .instance) (h .next) (rw e (h .reads)) }
+
+-- the instances that are left to look at, and whether the name is among them
+pub record Left (text t : List ℕ) (to : ℕ) (name : Name) (i : ℕ) (answer : Bool) : Type 0 where
+  pub children : List Child
+  pub block : Block text t i children
+  pub count : i + length children ≡ to
+  pub same : isAmong text name (namesOf children) ≡ answer
+
+pub record Looking (text t : List ℕ) (from to : ℕ) (name : Name) (i : ℕ) : Type 0 where
+  pub each : (cs : List Child) → Block text t from cs → from + length cs ≡ to → Left text t to name i (isAmong text name (namesOf cs))
+
+module _ (text t : List ℕ) (to : ℕ) (name : Name) where
+  block-none : {i : ℕ} (cs : List Child) {x : Bool} → to ≤ i → i + length cs ≡ to → isAmong text name (namesOf cs) ≡ x → false ≡ x
+  unfolding isAmong
+  block-none [] h n e = e
+  block-none (c ∷ cs) h n e = absurd (omega arith)
+
+  block-here : {i : ℕ} {cs : List Child} {x : Bool} → i < to → EntryNamed text (cellOf t i) name true → Block text t i cs → i + length cs ≡ to → isAmong text name (namesOf cs) ≡ x → true ≡ x
+  unfolding isAmong
+  block-here h a block-end n e = absurd (omega arith)
+  block-here h a (block-on {c = c} k b) n e = let q : true ≡ sameName text name (c .instance .name) = a .each c k in rw (← q) at e
+
+  block-next : {i : ℕ} {cs : List Child} {x : Bool} → i < to → EntryNamed text (cellOf t i) name false → Block text t i cs → i + length cs ≡ to → isAmong text name (namesOf cs) ≡ x → Left text t to name (i + 1) x
+  unfolding isAmong
+  block-next h a block-end n e = absurd (omega arith)
+  block-next h a (block-on {c = c} {cs = cs} k b) n e =
+      let q : false ≡ sameName text name (c .instance .name) = a .each c k in
+      record { children = cs; block = rw add-one b; count = omega arith; same = rw (← q) at e }
+
+  module _ (from : ℕ) where
+    pub look-start : Looking text t from to name from
+    look-start = record { each = λ cs b n. record { children = cs; block = b; count = n; same = refl } }
+
+    module _ {i : ℕ} (s : Looking text t from to name i) where
+      pub look-end : to ≤ i → Among text t from to name false
+      look-end h = record { each = λ cs b n. let l = s .each cs b n in block-none (l .children) h (l .count) (l .same) }
+
+      module _ {x : ℕ} {r : Bool} (h : i < to) (e : x ≡ cellOf t i) (a : EntryNamed text x name r) where
+        pub look-here : r ≡ true → Among text t from to name true
+        look-here y = record { each = λ cs b n. let l = s .each cs b n in block-here h (rw (← e, ← y) a) (l .block) (l .count) (l .same) }
+
+        pub look-on : r ≡ false → Looking text t from to name (i + 1)
+        look-on y = record { each = λ cs b n. let l = s .each cs b n in block-next h (rw (← e, ← y) a) (l .block) (l .count) (l .same) }

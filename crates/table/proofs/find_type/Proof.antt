@@ -1,0 +1,27 @@
+-- For all types that stand there, what the name means among those left to look at is what it means among all.
+use borrow.Author.Needs.{needs}
+use Rattle.table.proofs.Laws.{Seeking, seek-start, seek-here, seek-on, seek-end}
+use Rattle.table.proofs.find_type.Statement.{statement}
+use Rattle.table.proofs.find_type.Tie as tie
+
+abbrev Inv-loop : tie.InvT-loop
+Inv-loop text cells head stop name at₀ at = Seeking text cells head stop name at
+
+abbrev μ-loop : tie.MeasureT-loop
+μ-loop text cells head stop name at₀ at = at
+
+pub find-type-spec : {M : Type 1} → statement M
+find-type-spec =
+    tie.close
+    (tie.spec
+    Inv-loop
+    μ-loop
+    (λ c. search seek-start)
+    (λ c. search needs)
+    (λ c κs. search needs)
+    (λ c κs. search needs)
+    (λ c. search seek-here)
+    (λ c κs. search needs)
+    (λ c. search needs)
+    (λ c. search seek-on)
+    (λ c. search seek-end))

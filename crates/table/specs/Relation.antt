@@ -1,0 +1,62 @@
+-- What the cells say of a text: its definitions, its instances and its types.
+use mathlib.Core.Path.{_≡_}
+use mathlib.Core.Bool.{Bool, true, false}
+use mathlib.Core.List.{List, [], _∷_, map}
+use Prim.Native.Nat.{ℕ, suc, _+_, _*_, _<_, _≤_}
+use lib.ListN.{length, getD}
+use Rattle.chars.specs.Choice.{if_then_else_}
+use Rattle.parts.specs.Reading.{Parsed, ok}
+use Rattle.parts.specs.Parts.{instanceAt}
+use Rattle.parts.specs.declared.Name.{Name}
+use Rattle.parts.specs.declared.Instance.{Instance}
+use Rattle.names.specs.Names.{sameName, isAmong, fingerprint}
+use Rattle.properties.specs.declared.Given.{Given}
+use Rattle.properties.specs.declared.Given.the-variants.{Nothing, Number}
+use Rattle.components.specs.declared.Component.{Component}
+use Rattle.table.specs.Cells.{cellOf, filedAt, componentIn, firstIn, countIn, nameIn, belowIn, placeIn, rowIn, printIn}
+use Rattle.table.specs.Definitions.{Child, Definition, Entry, lookup, namesOf, noDefinition}
+
+-- a cell holds an instance
+pub record IsEntry (text : List ℕ) (x : ℕ) (c : Child) : Type 0 where
+  pub next : ℕ
+  pub reads : instanceAt text (placeIn x) ≡ ok (c .instance) next
+  pub type : rowIn x ≡ c .type
+  pub print : printIn x ≡ fingerprint text (c .instance .name)
+
+-- the cells from an index on hold these instances
+pub data Block (text t : List ℕ) : ℕ → List Child → Type 0 where
+  block-end : {i : ℕ} → Block text t i []
+  block-on : {i : ℕ} {c : Child} {cs : List Child} → IsEntry text (cellOf t i) c → Block text t (suc i) cs → Block text t i (c ∷ cs)
+
+-- a row holds a definition whose instances stand among the first `filed` of the closed ones
+pub record IsRow (text t : List ℕ) (filed row : ℕ) (d : Definition) : Type 0 where
+  pub component : componentIn t row ≡ d .component
+  pub instances : Block text t (filedAt + firstIn t row) (d .instances)
+  pub count : countIn t row ≡ length (d .instances)
+  pub within : firstIn t row + length (d .instances) ≤ filed
+
+-- the first rows hold the definitions that are closed
+pub record Holds (text t : List ℕ) (closed filed : ℕ) (table : List Definition) : Type 0 where
+  pub count : length table ≡ closed
+  pub each : (r : ℕ) → r < closed → IsRow text t filed r (getD table r noDefinition)
+
+-- the types from one row's number (and one more) down to another's are these
+pub data Chain (t : List ℕ) (stop : ℕ) : ℕ → List Entry → Type 0 where
+  chain-stop : Chain t stop stop []
+  chain-on : {e : Entry} {es : List Entry} → stop ≤ e .row → nameIn t (e .row) ≡ e .name → stop ≤ belowIn t (e .row) → Chain t stop (belowIn t (e .row)) es → Chain t stop (suc (e .row)) (e ∷ es)
+
+-- what `find_type` answers, for all types that stand there
+pub record Finds (text t : List ℕ) (head stop : ℕ) (name : Name) (answer : Given) : Type 0 where
+  pub low : (d : ℕ) → answer ≡ Number d → d < head
+  pub each : (es : List Entry) → Chain t stop head es → answer ≡ lookup text name es
+
+-- what `is_named_at` and `is_entry_named` answer, for the instance that stands there
+pub record NamedAt (text : List ℕ) (place : ℕ) (name : Name) (answer : Bool) : Type 0 where
+  pub each : (i : Instance) (next : ℕ) → instanceAt text place ≡ ok i next → answer ≡ sameName text name (i .name)
+
+pub record EntryNamed (text : List ℕ) (x : ℕ) (name : Name) (answer : Bool) : Type 0 where
+  pub each : (c : Child) → IsEntry text x c → answer ≡ sameName text name (c .instance .name)
+
+-- what `is_held` answers, for all instances that stand there
+pub record Among (text t : List ℕ) (from to : ℕ) (name : Name) (answer : Bool) : Type 0 where
+  pub each : (cs : List Child) → Block text t from cs → from + length cs ≡ to → answer ≡ isAmong text name (namesOf cs)
