@@ -9,6 +9,10 @@ use Rattle.settings.specs.declared.WriteEffect.the-variants as onwrite
 use Rattle.properties.specs.Assigned.{orElse}
 use Rattle.properties.specs.declared.Settings.{Settings}
 use Rattle.components.specs.declared.FieldType.{FieldType}
+use Rattle.parts.specs.declared.Suffix.{Suffix}
+use Rattle.parts.specs.declared.Suffix.the-variants as suffix
+use Rattle.components.specs.declared.Start.{Start}
+use Rattle.components.specs.declared.Start.the-variants as start
 use Rattle.components.specs.declared.Register.{Register}
 use Rattle.components.specs.declared.Component.{Component}
 use Rattle.components.specs.declared.Component.the-variants as component
@@ -46,3 +50,8 @@ kindOf (component.Field f) = kind.Field
 kindOf (component.Register r) = kind.Reg
 kindOf (component.Regfile a) = kind.Regfile
 kindOf (component.Addrmap a m) = kind.Addrmap
+
+-- "An instance with `@` starts there", at a byte's offset in its body
+abbrev pub startOf : Suffix → Start
+startOf suffix.Missing = start.Free
+startOf (suffix.Given mark n) = start.At (record { 0 = n .value })

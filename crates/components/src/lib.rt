@@ -14,11 +14,20 @@ ghost use Prim.Native.Nat.{_≤_, _<_, _^_};
 ghost use lib.Dec.{leb, ltb, eqb};
 ghost use Rattle.settings.specs.Codes.{accessCode};
 ghost use Rattle.properties.specs.Assigned.{noSettings};
-ghost use Rattle.components.specs.Components.{fieldType, registerOf, componentOf, kindOf};
+ghost use Rattle.components.specs.Components.{fieldType, registerOf, componentOf, kindOf, startOf};
 ghost use Rattle.components.specs.Fields.{isReadable, isWritable, hasUnusableEffect, widthIn, lowBit, highBit, ownReset, fieldAt, isWide, isResetWide, isReadWritePair, isOverlap, spansParts, breaks};
 
 // A bit's place in a register.
 pub struct BitPlace(pub u64);
+
+// A byte's offset in an address map or regfile. It is never mixed with a bit's place.
+pub struct Offset(pub u64);
+
+// Where an instance starts in its body, if its `@` says so.
+pub enum Start {
+    Free,
+    At(Offset),
+}
 
 // A field's access and effects, as the numbers of the words, and its reset.
 pub struct FieldType {
@@ -216,6 +225,17 @@ pub fn field_at(next: BitPlace, instance: Instance, field: FieldType) -> FieldAt
     let low = BitPlace(low_bit(next.0, array));
     let high = BitPlace(high_bit(next.0, array));
     FieldAt { low, high, values }
+}
+
+// Where an instance starts, if its `@` says so.
+pub fn start_of(instance: Instance) -> Start
+    ensures { λ r. ⌜ r ≡ startOf (instance .address) ⌝ }
+{
+    let address = instance.address;
+    match address {
+        Suffix::Missing => Start::Free,
+        Suffix::Given(_, number) => Start::At(Offset(number.value)),
+    }
 }
 
 // Whether a number needs more bits.

@@ -1,0 +1,12 @@
+use borrow.Author.Needs.{needs}
+use Rattle.components.proofs.start_of.Statement.{statement}
+use Rattle.components.proofs.start_of.Tie as tie
+
+pub start-of-spec : {M : Type 1} → statement M
+start-of-spec =
+    tie.close
+    (tie.spec
+    (λ c. search needs)
+    (λ c. search needs)
+    (λ c. search needs)
+    (λ c. rw (c .before .address .given .1)))

@@ -1,0 +1,4 @@
+pub mod Limits
+pub mod Layout
+pub mod Visits
+pub mod Whole

@@ -1,0 +1,279 @@
+-- The judge's answer is the first failing check.
+use mathlib.Core.Bool.{Bool, true, false, _||_, not}
+use mathlib.Core.Path.{_≡_, refl, sym, ap, _∙_}
+use mathlib.Core.List.{List, [], _∷_, _++_, map, append-assoc, append-nil}
+use Prim.Native.Nat.{ℕ, zero, suc, _+_}
+use native.Mathlib.Omega.{arith}
+use lib.Dec.{leb, ltb}
+use borrow.Author.Tests.{lt-ltb}
+use Rattle.chars.specs.Choice.{if_then_else_}
+use Rattle.vocabulary.specs.Vocabulary.{propertyOf}
+use Rattle.vocabulary.specs.declared.PropertyLookup.{PropertyLookup}
+use Rattle.vocabulary.specs.declared.PropertyLookup.the-variants.{Known, Unknown}
+use Rattle.parts.specs.declared.Name.{Name}
+use Rattle.parts.specs.declared.Kind.{Kind}
+use Rattle.parts.specs.declared.Array.{Array}
+use Rattle.parts.specs.declared.Array.the-variants as array
+use Rattle.parts.specs.declared.Suffix.{Suffix}
+use Rattle.parts.specs.declared.Suffix.the-variants as suffix
+use Rattle.parts.specs.declared.SuffixKind.{SuffixKind}
+use Rattle.parts.specs.declared.SuffixKind.the-variants.{Reset, Address, Stride, Alignment}
+use Rattle.parts.specs.declared.Instance.{Instance}
+use Rattle.parts.specs.declared.Header.{Header}
+use Rattle.parts.specs.declared.DefinedName.{DefinedName}
+use Rattle.parts.specs.declared.DefinedName.the-variants.{Unnamed, Named}
+use Rattle.parts.specs.declared.Property.{Property as Statement}
+use Rattle.settings.specs.Settings.{isField, isAllowed, slotOf, settingOf, valuePlace}
+use Rattle.settings.specs.declared.Setting.{Setting}
+use Rattle.settings.specs.declared.Setting.the-variants.{Set, Wrong}
+use Rattle.settings.specs.declared.Slot.{Slot}
+use Rattle.suffixes.specs.Suffixes.{firstOf, ranged, isSize, isRange, suffixRange, isBarred, arrayFault, suffixFault, instanceFault}
+use Rattle.suffixes.specs.declared.Fault.{Fault}
+use Rattle.suffixes.specs.declared.Fault.the-variants.{Sound, Broken}
+use Rattle.syntax.specs.Tree.{Elem, definition, instances, property, Body, close, more}
+use Rattle.names.specs.Names.{bytesOf, isAmong}
+use Rattle.properties.specs.Judged.{Judged, fault, fine, onward, unless}
+use Rattle.properties.specs.Assigned.{givenIn, isGiven, settingsOf, assigned, nearest, noSettings}
+use Rattle.properties.specs.Properties.{judgeValue, judgeKnown, judgeProperty}
+use Rattle.properties.specs.declared.Given.{Given}
+use Rattle.properties.specs.declared.Given.the-variants.{Nothing, Number}
+use Rattle.properties.specs.declared.Settings.{Settings}
+use Rattle.properties.specs.declared.Assigned.{Assigned}
+use Rattle.components.specs.Components.{componentOf, kindOf}
+use Rattle.components.specs.Fields.{hasUnusableEffect}
+use Rattle.components.specs.declared.Component.{Component}
+use Rattle.components.specs.declared.Component.the-variants as component
+use Rattle.components.specs.declared.Probe.the-variants.{Wide, Outside, Span}
+use Rattle.table.specs.Definitions.{Child, Definition, definitionOf, namesOf, Entry, lookup}
+use Rattle.closing.specs.Registers.{fieldsOf, some, overlaps, isEmpty, registerFault, closingFault}
+use Rattle.places.specs.Places.{mayDefine, mayHold, isBadMap}
+use Rattle.places.specs.declared.Place.{Place}
+use Rattle.places.specs.declared.Place.the-variants.{Root, Inside}
+use Rattle.rules.specs.Limits.{definitionLimit}
+use Rattle.rules.specs.Judge.{State, Known as Facts, opening, withAssigned, withHeld, found, judgeInstances, judgeUse, judgeSetting, typeTwice, namePlace, Made, lastOf, closed, declared, judgeDefinition, judgeElem, judgeBody, meaningOf, judgeFile, judge}
+use Rattle.order.specs.Order.{Check, check, arrayChecks, suffixChecks, instanceChecks, listChecks, heldAfter, Walked, walked, walkUse, isWrong, assignedBy, walkProperty, walkSetting, closeChecks, walkClose, nameChecks, headerChecks, walkDefinition, walkElem, walkBody, mapCheck, fileChecks, checksOf, firstFailing, faultOf}
+
+-- what was judged is what was walked: no check fails and the results are the same, or the fault is the first check that fails
+pub data Agrees {A : Type 0} (w : Walked A) : Judged A → Type 0 where
+  agrees-fine : {a : A} → firstFailing (w .checks) ≡ Sound → w .result ≡ a → Agrees w (fine a)
+  agrees-fault : {n p : ℕ} → firstFailing (w .checks) ≡ Broken n p → Agrees w (fault n p)
+
+pub first-append : (xs ys : List Check) → firstFailing (xs ++ ys) ≡ firstOf (firstFailing xs) (firstFailing ys)
+unfolding firstFailing
+first-append [] ys = refl
+first-append (c ∷ xs) ys = by (c .fails) (first-append xs ys)
+  where
+    by : (b : Bool) → firstFailing (xs ++ ys) ≡ firstOf (firstFailing xs) (firstFailing ys)
+        → (if b then Broken (c .number) (c .place) else firstFailing (xs ++ ys)) ≡ firstOf (if b then Broken (c .number) (c .place) else firstFailing xs) (firstFailing ys)
+    by true e = refl
+    by false e = e
+
+module _ {A : Type 0} where
+  -- a check at the front
+  agrees-unless : (b : Bool) (n p : ℕ) (w : Walked A) {j : Judged A} → Agrees w j → Agrees (walked (check n p b ∷ w .checks) (w .result)) (unless b n p j)
+  unfolding firstFailing unless
+  agrees-unless true n p w h = agrees-fault refl
+  agrees-unless false n p w (agrees-fine e f) = agrees-fine e f
+  agrees-unless false n p w (agrees-fault e) = agrees-fault e
+
+  -- some checks at the front
+  agrees-found : (f : Fault) (cs : List Check) (w : Walked A) {j : Judged A} → firstFailing cs ≡ f → Agrees w j → Agrees (walked (cs ++ w .checks) (w .result)) (found f j)
+  agrees-found Sound cs w e (agrees-fine g h) = agrees-fine (first-append cs (w .checks) ∙ (rw (e, g))) h
+  agrees-found Sound cs w e (agrees-fault {n = n} {p = p} g) = agrees-fault {n = n} {p = p} (first-append cs (w .checks) ∙ (rw (e, g)))
+  agrees-found (Broken n p) cs w e h = agrees-fault {n = n} {p = p} (first-append cs (w .checks) ∙ (rw e))
+
+  pub agrees-fault-of : (w : Walked A) {j : Judged A} → Agrees w j → faultOf j ≡ firstFailing (w .checks)
+  agrees-fault-of w (agrees-fine e f) = sym e
+  agrees-fault-of w (agrees-fault e) = sym e
+
+-- one part behind another
+agrees-onward : {A B : Type 0} (w : Walked A) (v : Walked B) {j : Judged A} (k : A → Judged B) → Agrees w j → Agrees v (k (w .result)) → Agrees (walked (w .checks ++ v .checks) (v .result)) (onward j k)
+unfolding onward
+agrees-onward w v k (agrees-fine e f) h = agrees-found Sound (w .checks) v e (rw f at h)
+agrees-onward w v k (agrees-fault {n = n} {p = p} e) h = agrees-fault {n = n} {p = p} (first-append (w .checks) (v .checks) ∙ (rw e))
+
+-- what becomes of a result
+agrees-then : {A B : Type 0} (w : Walked A) {j : Judged A} (f : A → B) → Agrees w j → Agrees (walked (w .checks) (f (w .result))) (onward j (λ a. fine (f a)))
+unfolding onward
+agrees-then w f (agrees-fine e g) = agrees-fine e (ap f g)
+agrees-then w f (agrees-fault e) = agrees-fault e
+
+-- the suffixes of an instance
+one-check : (b : Bool) (p : ℕ) → firstFailing (check 9 p (not b) ∷ []) ≡ ranged b p
+unfolding firstFailing ranged
+one-check true p = refl
+one-check false p = refl
+
+array-first : (field : Bool) (a : Array) → firstFailing (arrayChecks field a) ≡ arrayFault field a
+unfolding firstFailing
+array-first field array.Missing = refl
+array-first field (array.Size mark n) = one-check (isSize field (n .value)) (n .place)
+array-first true (array.Range mark left right) = one-check (isRange (left .value) (right .value)) (left .place)
+array-first false (array.Range mark left right) = refl
+
+suffix-first : (barred : Bool) (s : SuffixKind) (x : Suffix) → firstFailing (suffixChecks barred s x) ≡ suffixFault barred s x
+unfolding firstFailing
+suffix-first barred s suffix.Missing = refl
+suffix-first true s (suffix.Given mark n) = refl
+suffix-first false s (suffix.Given mark n) = one-check (suffixRange s (n .value)) (n .place)
+
+instance-first : (k : Kind) (i : Instance) → firstFailing (instanceChecks k i) ≡ instanceFault k i
+unfolding instanceChecks instanceFault
+instance-first k i =
+    let f = isField k in
+    joined (arrayChecks f (i .array)) _ (array-first f (i .array))
+    (joined (suffixChecks (isBarred Reset f i) Reset (i .reset)) _ (suffix-first (isBarred Reset f i) Reset (i .reset))
+    (joined (suffixChecks (isBarred Address f i) Address (i .address)) _ (suffix-first (isBarred Address f i) Address (i .address))
+    (joined (suffixChecks (isBarred Stride f i) Stride (i .stride)) _ (suffix-first (isBarred Stride f i) Stride (i .stride))
+    (suffix-first (isBarred Alignment f i) Alignment (i .alignment)))))
+  where
+    joined : (xs ys : List Check) {f g : Fault} → firstFailing xs ≡ f → firstFailing ys ≡ g → firstFailing (xs ++ ys) ≡ firstOf f g
+    joined xs ys e h = first-append xs ys ∙ (rw (e, h))
+
+-- a list of instances
+list-agrees : (text : List ℕ) (b : Place) (k : Kind) (n : ℕ) (is : List Instance) (held : List Child)
+    → Agrees (walked (listChecks text b k n is held) (heldAfter n is held)) (judgeInstances text b k n is held)
+unfolding listChecks judgeInstances firstFailing
+list-agrees text b k n [] held = agrees-fine refl (append-nil held)
+list-agrees text b k n (i ∷ is) held =
+    let c : Child = record { instance = i; type = n } in
+    let rest : List Check = listChecks text b k n is (held ++ (c ∷ [])) in
+    let v = heldAfter n is (held ++ (c ∷ [])) in
+    let e : v ≡ heldAfter n (i ∷ is) held = append-assoc held (c ∷ []) (map (λ i. record { instance = i; type = n }) is) in
+    rw (← e)
+    (agrees-unless (isAmong text (i .name) (namesOf held)) 6 (i .name .start) (walked (check 10 (i .name .start) (not (mayHold b k)) ∷ (instanceChecks k i ++ rest)) v)
+    (agrees-unless (not (mayHold b k)) 10 (i .name .start) (walked (instanceChecks k i ++ rest) v)
+    (agrees-found (instanceFault k i) (instanceChecks k i) (walked rest v) (instance-first k i) (list-agrees text b k n is (held ++ (c ∷ []))))))
+
+-- statements
+use-agrees : (text : List ℕ) (b : Place) (n : Name) (is : List Instance) (s : State) (g : Given) → Agrees (walkUse text b n is s g) (judgeUse text b n is s g)
+unfolding walkUse judgeUse firstFailing
+use-agrees text b n is s Nothing = agrees-fault refl
+use-agrees text b n is s (Number d) =
+    let k = kindOf (definitionOf (s .known .table) d .component) in
+    agrees-then (walked (listChecks text b k d is (s .held)) (heldAfter d is (s .held))) (λ (cs : List Child). withHeld s cs) (list-agrees text b k d is (s .held))
+
+value-agrees : (a : Assigned) (p : Statement) (l : Slot) (x : Setting)
+    → Agrees (walked (check 9 (valuePlace (p .start) (p .value)) (isWrong x) ∷ []) (assignedBy x (p .defaulted) a l)) (judgeValue a p l x)
+unfolding judgeValue firstFailing
+value-agrees a p l (Set n) = agrees-fine refl refl
+value-agrees a p l Wrong = agrees-fault refl
+
+known-agrees : (k : Kind) (s : State) (p : Statement) (x : PropertyLookup) → Agrees (walkProperty k s p x) (onward (judgeKnown k (s .assigned) p x) (λ a. fine (withAssigned s a)))
+unfolding walkProperty judgeKnown onward firstFailing
+known-agrees k s p Unknown = agrees-fault refl
+known-agrees k s p (Known q) =
+    let v = assignedBy (settingOf q (p .value)) (p .defaulted) (s .assigned) (slotOf q) in
+    let c = check 9 (valuePlace (p .start) (p .value)) (isWrong (settingOf q (p .value))) in
+    let g = isGiven (givenIn (settingsOf (p .defaulted) (s .assigned)) (slotOf q)) in
+    agrees-then (walked (check 7 (p .start) (not (isAllowed (p .defaulted) q k)) ∷ check 8 (p .start) g ∷ c ∷ []) v) (λ (a : Assigned). withAssigned s a)
+    (agrees-unless (not (isAllowed (p .defaulted) q k)) 7 (p .start) (walked (check 8 (p .start) g ∷ c ∷ []) v)
+    (agrees-unless g 8 (p .start) (walked (c ∷ []) v) (value-agrees (s .assigned) p (slotOf q) (settingOf q (p .value)))))
+
+setting-agrees : (text : List ℕ) (b : Place) (s : State) (p : Statement) → Agrees (walkSetting text b s p) (judgeSetting text b s p)
+unfolding walkSetting judgeSetting judgeProperty firstFailing
+setting-agrees text Root s p = agrees-fault refl
+setting-agrees text (Inside k) s p = known-agrees k s p (propertyOf (bytesOf text (p .start) (p .end)))
+
+-- a closing brace: the number 0 means none
+abbrev numbered : ℕ → ℕ → Fault
+numbered zero p = Sound
+numbered (suc n) p = Broken (suc n) p
+
+single : (b : Bool) (n p : ℕ) → firstFailing (check (suc n) p b ∷ []) ≡ numbered (if b then suc n else 0) p
+unfolding firstFailing
+single true n p = refl
+single false n p = refl
+
+close-first : (table : List Definition) (c : Component) (cs : List Child) (p : ℕ) → firstFailing (closeChecks table c cs p) ≡ numbered (closingFault table c cs) p
+unfolding closeChecks closingFault registerFault firstFailing
+close-first table (component.Field f) cs p = single (hasUnusableEffect f) 11 p
+close-first table (component.Register r) cs p =
+    by (isEmpty cs) (some Wide (fieldsOf table cs)) (ltb (r .width) (r .access)) (some (Outside (r .width)) (fieldsOf table cs)) (overlaps (fieldsOf table cs)) (some (Span (r .access)) (fieldsOf table cs))
+  where
+    by : (a b c d e f : Bool) → firstFailing (check 10 p a ∷ check 13 p b ∷ check 14 p c ∷ check 15 p d ∷ check 16 p e ∷ check 17 p f ∷ [])
+        ≡ numbered (if a then 10 else if b then 13 else if c then 14 else if d then 15 else if e then 16 else if f then 17 else 0) p
+    by true b c d e f = refl
+    by false true c d e f = refl
+    by false false true d e f = refl
+    by false false false true e f = refl
+    by false false false false true f = refl
+    by false false false false false true = refl
+    by false false false false false false = refl
+close-first table (component.Regfile a) cs p = single (isEmpty cs) 9 p
+close-first table (component.Addrmap a m) cs p = single (isEmpty cs) 9 p
+
+numbered-agrees : {A : Type 0} (cs : List Check) (a : A) (n p : ℕ) → firstFailing cs ≡ numbered n p → Agrees (walked cs a) (unless (ltb 0 n) n p (fine a))
+unfolding unless
+numbered-agrees cs a zero p e = agrees-fine e refl
+numbered-agrees cs a (suc n) p e = rw (lt-ltb 0 (suc n) (omega arith)) (agrees-fault e)
+
+close-agrees : (k : Kind) (outer : Settings) (s : State) (p : ℕ) → Agrees (walkClose k outer s p) (closed k outer s p)
+unfolding walkClose closed
+close-agrees k outer s p =
+    let c = componentOf k (nearest (s .assigned .own) outer) in
+    let table = s .known .table in
+    numbered-agrees (closeChecks table c (s .held) p) _ (closingFault table c (s .held)) p (close-first table c (s .held) p)
+
+-- a definition
+name-agrees : {A : Type 0} (text : List ℕ) (here : List Entry) (n : DefinedName) (w : Walked A) {j : Judged A} → Agrees w j
+    → Agrees (walked (nameChecks text here n ++ w .checks) (w .result)) (unless (typeTwice text here n) 6 (namePlace n) j)
+unfolding unless
+name-agrees text here Unnamed w h = h
+name-agrees text here (Named n) w h = agrees-unless (typeTwice text here (Named n)) 6 (n .start) w h
+
+definition-agrees : (text : List ℕ) (b : Place) (outer : Settings) (s : State) (h : Header) (is : List Instance) (w : Walked Made) (body : Settings → State → Judged Made)
+    → Agrees w (body (nearest (s .assigned .defaults) outer) (opening (s .known .table) (s .known .map) (s .known .opened + 1)))
+    → Agrees (walkDefinition text b s h is w) (judgeDefinition text b outer s h is body)
+unfolding walkDefinition judgeDefinition headerChecks
+definition-agrees text b outer s h is w body a =
+    let m = w .result in
+    let l : List Check = listChecks text b (h .kind) (lastOf (m .table)) is (s .held) in
+    let held = heldAfter (lastOf (m .table)) is (s .held) in
+    let v = withHeld (declared s h m) held in
+    let inner : List Check = w .checks ++ l in
+    let named : List Check = nameChecks text (s .known .here) (h .name) ++ inner in
+    let deep = leb definitionLimit (s .known .opened) in
+    agrees-unless (not (mayDefine b (h .kind)) || isBadMap (s .known .map) h) 10 (h .place) (walked (check 18 (h .place) deep ∷ named) v)
+    (agrees-unless deep 18 (h .place) (walked named v)
+    (name-agrees text (s .known .here) (h .name) (walked inner v)
+    (agrees-onward w (walked l v) _ a
+    (agrees-then (walked l held) (λ (cs : List Child). withHeld (declared s h m) cs) (list-agrees text b (h .kind) (lastOf (m .table)) is (s .held))))))
+
+mutual
+  unfolding walkElem walkBody judgeElem judgeBody
+
+  elem-agrees : (e : Elem) (text : List ℕ) (place : Place) (env : List Entry) (outer : Settings) (s : State) → Agrees (walkElem e text place env outer s) (judgeElem e text place env outer s)
+  elem-agrees (definition h b is) text place env outer s =
+      definition-agrees text place outer s h is _ (λ defaults state. judgeBody b text (h .kind) (s .known .here ++ env) defaults state)
+      (body-agrees b text (h .kind) (s .known .here ++ env) (nearest (s .assigned .defaults) outer) (opening (s .known .table) (s .known .map) (s .known .opened + 1)))
+  elem-agrees (instances n is) text place env outer s = use-agrees text place n is s (lookup text n (s .known .here ++ env))
+  elem-agrees (property p) text place env outer s = setting-agrees text place s p
+
+  body-agrees : (b : Body) (text : List ℕ) (k : Kind) (env : List Entry) (outer : Settings) (s : State) → Agrees (walkBody b text k env outer s) (judgeBody b text k env outer s)
+  body-agrees (close p) text k env outer s = close-agrees k outer s p
+  body-agrees (more e rest) text k env outer s =
+      agrees-onward (walkElem e text (Inside k) env outer s) (walkBody rest text k env outer (walkElem e text (Inside k) env outer s .result)) _ (elem-agrees e text (Inside k) env outer s)
+      (body-agrees rest text k env outer (walkElem e text (Inside k) env outer s .result))
+
+-- a file
+map-first : (k : Facts) (g : Given) (p : ℕ) → faultOf (meaningOf k g p) ≡ firstFailing (mapCheck g p ∷ [])
+unfolding firstFailing
+map-first k Nothing p = refl
+map-first k (Number d) p = refl
+
+onward-first : {A B : Type 0} (w : Walked A) {j : Judged A} (k : A → Judged B) (cs : List Check) → Agrees w j → faultOf (k (w .result)) ≡ firstFailing cs → faultOf (onward j k) ≡ firstFailing (w .checks ++ cs)
+unfolding onward
+onward-first w k cs (agrees-fine e f) h = (rw f at h) ∙ sym (first-append (w .checks) cs ∙ (rw e))
+onward-first w k cs (agrees-fault e) h = sym (first-append (w .checks) cs ∙ (rw e))
+
+file-first : (b : Body) (text : List ℕ) (s : State) → faultOf (judgeFile b text s) ≡ firstFailing (fileChecks b text s)
+unfolding judgeFile fileChecks
+file-first (close p) text s = map-first (s .known) (s .known .map) p
+file-first (more e rest) text s =
+    let w = walkElem e text Root [] noSettings s in
+    onward-first w _ (fileChecks rest text (w .result)) (elem-agrees e text Root [] noSettings s) (file-first rest text (w .result))
+
+pub judge-first : (text : List ℕ) (b : Body) → faultOf (judge text b) ≡ firstFailing (checksOf text b)
+unfolding judge checksOf
+judge-first text b = file-first b text (opening [] Nothing 0)

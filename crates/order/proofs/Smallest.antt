@@ -1,0 +1,94 @@
+-- "The smallest place wins, then the smallest number": a refusal is the smallest of all checks that fail, and an accepted text has none.
+use mathlib.Core.Bool.{Bool, true, false}
+use mathlib.Core.Path.{_≡_, refl, sym, ap, subst, _∙_}
+use mathlib.Core.List.{List, [], _∷_}
+use mathlib.Core.Logic.{_⊎_, inl, inr}
+use Prim.Native.Nat.{ℕ, _<_, _≤_}
+use native.Mathlib.Omega.{arith}
+use Rattle.chars.specs.Choice.{if_then_else_}
+use Rattle.parts.specs.Reading.{ok}
+use Rattle.suffixes.specs.declared.Fault.the-variants.{Sound, Broken}
+use Rattle.syntax.specs.Tree.{Body}
+use Rattle.syntax.specs.Grammar.{fileAt}
+use Rattle.properties.specs.Judged.{Judged, fault, fine}
+use Rattle.rules.specs.Judge.{Meaning, judge}
+use Rattle.order.specs.Order.{Check, check, checksOf, firstFailing, faultOf, In, in-here, in-later, Before, Ordered, ordered-on}
+use Rattle.order.proofs.First.{judge-first}
+use Rattle.order.proofs.Sorted.{checks-ordered}
+
+apart : {X : Type 0} {n p : ℕ} → Sound ≡ Broken n p → X
+apart e = absurd (let z : _≡_ {A = ℕ} 0 1 = cc in omega arith)
+
+unlike : {X : Type 0} → true ≡ false → X
+unlike e = absurd (let z : _≡_ {A = ℕ} 0 1 = cc in omega arith)
+
+-- the first check that fails, or none
+first-none : {cs : List Check} {c : Check} → firstFailing cs ≡ Sound → In c cs → c .fails ≡ false
+unfolding firstFailing
+first-none {c = c} e (in-here {cs = cs}) = by (c .fails) e
+  where
+    by : (b : Bool) → (if b then Broken (c .number) (c .place) else firstFailing cs) ≡ Sound → b ≡ false
+    by true f = apart (sym f)
+    by false f = refl
+first-none e (in-later {d = d} {cs = cs} i) = first-none (by (d .fails) e) i
+  where
+    by : (b : Bool) → (if b then Broken (d .number) (d .place) else firstFailing cs) ≡ Sound → firstFailing cs ≡ Sound
+    by true f = apart (sym f)
+    by false f = f
+
+first-among : (cs : List Check) {n p : ℕ} → firstFailing cs ≡ Broken n p → In (check n p true) cs
+unfolding firstFailing
+first-among [] e = apart e
+first-among (c ∷ cs) {n} {p} e = by (c .fails) refl (first-among cs) e
+  where
+    by : (b : Bool) → c .fails ≡ b → (firstFailing cs ≡ Broken n p → In (check n p true) cs) → (if b then Broken (c .number) (c .place) else firstFailing cs) ≡ Broken n p → In (check n p true) (c ∷ cs)
+    by true f r q =
+        let x : c .number ≡ n = cc in
+        let y : c .place ≡ p = cc in
+        let z : check (c .number) (c .place) (c .fails) ≡ check n p true = rw (x, y, f) in
+        subst (λ (d : Check). In d (c ∷ cs)) z in-here
+    by false f r q = in-later (r q)
+
+-- a number and a place that do not come after a check
+abbrev NotAfter : ℕ → ℕ → Check → Type 0
+NotAfter n p c = (p < c .place) ⊎ ((p ≡ c .place) × (n ≤ c .number))
+
+not-after : {n p : ℕ} (d c : Check) → d .number ≡ n → d .place ≡ p → Before d c → NotAfter n p c
+not-after d c x y (inl l) = inl (omega arith)
+not-after d c x y (inr w) = inr (sym y ∙ w .0, omega (arith, x, w .1))
+
+first-smallest : {cs : List Check} {n p : ℕ} {c : Check} → Ordered cs → firstFailing cs ≡ Broken n p → In c cs → c .fails ≡ true → NotAfter n p c
+unfolding firstFailing
+first-smallest {n = n} {p} {c} (ordered-on {cs = cs} o r) e in-here f = by (c .fails) f e
+  where
+    by : (b : Bool) → b ≡ true → (if b then Broken (c .number) (c .place) else firstFailing cs) ≡ Broken n p → NotAfter n p c
+    by true g q =
+        let x : c .number ≡ n = cc in
+        let y : c .place ≡ p = cc in
+        inr (sym y, omega arith)
+    by false g q = unlike (sym g)
+first-smallest {n = n} {p} {c} (ordered-on {c = d} {cs = cs} o r) e (in-later i) f = by (d .fails) (o c i) (λ q. first-smallest r q i f) e
+  where
+    by : (b : Bool) → Before d c → (firstFailing cs ≡ Broken n p → NotAfter n p c) → (if b then Broken (d .number) (d .place) else firstFailing cs) ≡ Broken n p → NotAfter n p c
+    by true w later q =
+        let x : d .number ≡ n = cc in
+        let y : d .place ≡ p = cc in
+        not-after d c x y w
+    by false w later q = later q
+
+-- the fault of a text is its first check that fails
+refused : (text : List ℕ) (b : Body) {n p : ℕ} → judge text b ≡ fault n p → firstFailing (checksOf text b) ≡ Broken n p
+refused text b e = sym (judge-first text b) ∙ ap (λ (j : Judged Meaning). faultOf j) e
+
+accepted : (text : List ℕ) (b : Body) {x : Meaning} → judge text b ≡ fine x → firstFailing (checksOf text b) ≡ Sound
+accepted text b e = sym (judge-first text b) ∙ ap (λ (j : Judged Meaning). faultOf j) e
+
+pub smallest : (text : List ℕ) {b : Body} {m n p : ℕ} → fileAt text ≡ ok b m → judge text b ≡ fault n p → (c : Check) → In c (checksOf text b) → c .fails ≡ true
+    → (p < c .place) ⊎ ((p ≡ c .place) × (n ≤ c .number))
+smallest text {b} q e c i f = first-smallest (checks-ordered text q) (refused text b e) i f
+
+pub among : (text : List ℕ) (b : Body) {n p : ℕ} → judge text b ≡ fault n p → In (check n p true) (checksOf text b)
+among text b e = first-among (checksOf text b) (refused text b e)
+
+pub none : (text : List ℕ) (b : Body) {x : Meaning} → judge text b ≡ fine x → (c : Check) → In c (checksOf text b) → c .fails ≡ false
+none text b e c i = first-none (accepted text b e) i

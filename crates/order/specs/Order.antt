@@ -1,0 +1,212 @@
+-- Every check of the rules 5 to 18 in a text, each with its number, its place and whether it fails, by a walk that goes on behind a
+-- fault. The judge's answer is the failing check of the smallest place, then of the smallest number (proofs/Smallest).
+use mathlib.Core.Bool.{Bool, true, false, _||_, not}
+use mathlib.Core.List.{List, [], _∷_, _++_, map}
+use mathlib.Core.Logic.{_⊎_}
+use mathlib.Core.Path.{_≡_}
+use Prim.Native.Nat.{ℕ, _+_, _<_}
+use lib.Dec.{leb, ltb}
+use Rattle.chars.specs.Choice.{if_then_else_}
+use Rattle.vocabulary.specs.Vocabulary.{propertyOf}
+use Rattle.vocabulary.specs.declared.PropertyLookup.{PropertyLookup}
+use Rattle.vocabulary.specs.declared.PropertyLookup.the-variants.{Known, Unknown}
+use Rattle.parts.specs.declared.Name.{Name}
+use Rattle.parts.specs.declared.Kind.{Kind}
+use Rattle.parts.specs.declared.Array.{Array}
+use Rattle.parts.specs.declared.Array.the-variants as array
+use Rattle.parts.specs.declared.Suffix.{Suffix}
+use Rattle.parts.specs.declared.Suffix.the-variants as suffix
+use Rattle.parts.specs.declared.SuffixKind.{SuffixKind}
+use Rattle.parts.specs.declared.SuffixKind.the-variants.{Reset, Address, Stride, Alignment}
+use Rattle.parts.specs.declared.Instance.{Instance}
+use Rattle.parts.specs.declared.Header.{Header}
+use Rattle.parts.specs.declared.DefinedName.{DefinedName}
+use Rattle.parts.specs.declared.DefinedName.the-variants.{Unnamed, Named}
+use Rattle.parts.specs.declared.Property.{Property as Statement}
+use Rattle.settings.specs.Settings.{isField, isAllowed, slotOf, settingOf, valuePlace}
+use Rattle.settings.specs.declared.Setting.{Setting}
+use Rattle.settings.specs.declared.Setting.the-variants.{Set, Wrong}
+use Rattle.settings.specs.declared.Slot.{Slot}
+use Rattle.suffixes.specs.Suffixes.{isSize, isRange, suffixRange, isBarred}
+use Rattle.suffixes.specs.declared.Fault.{Fault}
+use Rattle.suffixes.specs.declared.Fault.the-variants.{Sound, Broken}
+use Rattle.syntax.specs.Tree.{Elem, definition, instances, property, Body, close, more}
+use Rattle.names.specs.Names.{bytesOf, isAmong}
+use Rattle.properties.specs.Judged.{Judged, fault, fine}
+use Rattle.properties.specs.Assigned.{givenIn, isGiven, settingsOf, assigned, nearest, noSettings}
+use Rattle.properties.specs.declared.Given.{Given}
+use Rattle.properties.specs.declared.Given.the-variants.{Nothing, Number}
+use Rattle.properties.specs.declared.Settings.{Settings}
+use Rattle.properties.specs.declared.Assigned.{Assigned}
+use Rattle.components.specs.Components.{componentOf, kindOf}
+use Rattle.components.specs.Fields.{hasUnusableEffect}
+use Rattle.components.specs.declared.Component.{Component}
+use Rattle.components.specs.declared.Component.the-variants as component
+use Rattle.components.specs.declared.Probe.the-variants.{Wide, Outside, Span}
+use Rattle.table.specs.Definitions.{Child, Definition, definitionOf, namesOf, Entry, lookup}
+use Rattle.closing.specs.Registers.{fieldsOf, some, overlaps, isEmpty}
+use Rattle.places.specs.Places.{mayDefine, mayHold, isBadMap}
+use Rattle.places.specs.declared.Place.{Place}
+use Rattle.places.specs.declared.Place.the-variants.{Root, Inside}
+use Rattle.rules.specs.Limits.{definitionLimit}
+use Rattle.rules.specs.Judge.{State, opening, withAssigned, withHeld, typeTwice, Made, lastOf, declared}
+
+pub record Check : Type 0 where
+  pub number : ℕ
+  pub place : ℕ
+  pub fails : Bool
+
+abbrev pub check : ℕ → ℕ → Bool → Check
+check n p b = record { number = n; place = p; fails = b }
+
+-- 9 and 11: the suffixes of an instance
+abbrev pub arrayChecks : Bool → Array → List Check
+arrayChecks field array.Missing = []
+arrayChecks field (array.Size mark n) = check 9 (n .place) (not (isSize field (n .value))) ∷ []
+arrayChecks true (array.Range mark left right) = check 9 (left .place) (not (isRange (left .value) (right .value))) ∷ []
+arrayChecks false (array.Range mark left right) = check 11 mark true ∷ []
+
+abbrev pub suffixChecks : Bool → SuffixKind → Suffix → List Check
+suffixChecks barred s suffix.Missing = []
+suffixChecks barred s (suffix.Given mark n) = check 11 mark barred ∷ check 9 (n .place) (not (suffixRange s (n .value))) ∷ []
+
+unfoldable pub instanceChecks : Kind → Instance → List Check
+instanceChecks k i =
+    arrayChecks (isField k) (i .array) ++
+    (suffixChecks (isBarred Reset (isField k) i) Reset (i .reset) ++
+    (suffixChecks (isBarred Address (isField k) i) Address (i .address) ++
+    (suffixChecks (isBarred Stride (isField k) i) Stride (i .stride) ++
+    suffixChecks (isBarred Alignment (isField k) i) Alignment (i .alignment))))
+
+-- 6 and 10 at the name, then 9 and 11
+unfoldable pub listChecks : List ℕ → Place → Kind → ℕ → List Instance → List Child → List Check
+listChecks text b k n [] held = []
+listChecks text b k n (i ∷ is) held =
+    check 6 (i .name .start) (isAmong text (i .name) (namesOf held)) ∷
+    check 10 (i .name .start) (not (mayHold b k)) ∷
+    (instanceChecks k i ++ listChecks text b k n is (held ++ (record { instance = i; type = n } ∷ [])))
+
+abbrev pub heldAfter : ℕ → List Instance → List Child → List Child
+heldAfter n is held = held ++ map (λ i. record { instance = i; type = n }) is
+
+-- what a part of a text has for checks, and what is known behind it
+pub record Walked (A : Type 0) : Type 0 where
+  pub checks : List Check
+  pub result : A
+
+abbrev pub walked : {A : Type 0} → List Check → A → Walked A
+walked cs a = record { checks = cs; result = a }
+
+-- 5: an instance statement
+unfoldable pub walkUse : List ℕ → Place → Name → List Instance → State → Given → Walked State
+walkUse text b n is s Nothing = walked (check 5 (n .start) true ∷ []) s
+walkUse text b n is s (Number d) =
+    walked (listChecks text b (kindOf (definitionOf (s .known .table) d .component)) d is (s .held)) (withHeld s (heldAfter d is (s .held)))
+
+-- 7, 8, 9: a property statement
+abbrev pub isWrong : Setting → Bool
+isWrong (Set n) = false
+isWrong Wrong = true
+
+abbrev pub assignedBy : Setting → Bool → Assigned → Slot → Assigned
+assignedBy (Set n) d a l = assigned d a l n
+assignedBy Wrong d a l = a
+
+unfoldable pub walkProperty : Kind → State → Statement → PropertyLookup → Walked State
+walkProperty k s p Unknown = walked (check 7 (p .start) true ∷ []) s
+walkProperty k s p (Known q) =
+    walked
+    (check 7 (p .start) (not (isAllowed (p .defaulted) q k)) ∷
+    check 8 (p .start) (isGiven (givenIn (settingsOf (p .defaulted) (s .assigned)) (slotOf q))) ∷
+    check 9 (valuePlace (p .start) (p .value)) (isWrong (settingOf q (p .value))) ∷ [])
+    (withAssigned s (assignedBy (settingOf q (p .value)) (p .defaulted) (s .assigned) (slotOf q)))
+
+unfoldable pub walkSetting : List ℕ → Place → State → Statement → Walked State
+walkSetting text Root s p = walked (check 7 (p .start) true ∷ []) s
+walkSetting text (Inside k) s p = walkProperty k s p (propertyOf (bytesOf text (p .start) (p .end)))
+
+-- 10 and 12 to 17 at a closing brace
+unfoldable pub closeChecks : List Definition → Component → List Child → ℕ → List Check
+closeChecks table (component.Field f) cs p = check 12 p (hasUnusableEffect f) ∷ []
+closeChecks table (component.Register r) cs p =
+    check 10 p (isEmpty cs) ∷
+    check 13 p (some Wide (fieldsOf table cs)) ∷
+    check 14 p (ltb (r .width) (r .access)) ∷
+    check 15 p (some (Outside (r .width)) (fieldsOf table cs)) ∷
+    check 16 p (overlaps (fieldsOf table cs)) ∷
+    check 17 p (some (Span (r .access)) (fieldsOf table cs)) ∷ []
+closeChecks table (component.Regfile a) cs p = check 10 p (isEmpty cs) ∷ []
+closeChecks table (component.Addrmap a m) cs p = check 10 p (isEmpty cs) ∷ []
+
+unfoldable pub walkClose : Kind → Settings → State → ℕ → Walked Made
+walkClose k outer s p =
+    let c = componentOf k (nearest (s .assigned .own) outer) in
+    let table = s .known .table in
+    walked (closeChecks table c (s .held) p) (record { table = table ++ (record { component = c; instances = s .held } ∷ []); opened = s .known .opened })
+
+-- 10 and 18 at a kind word, 6 at a type's name
+abbrev pub nameChecks : List ℕ → List Entry → DefinedName → List Check
+nameChecks text here Unnamed = []
+nameChecks text here (Named n) = check 6 (n .start) (typeTwice text here (Named n)) ∷ []
+
+unfoldable pub headerChecks : List ℕ → Place → State → Header → List Check
+headerChecks text b s h =
+    check 10 (h .place) (not (mayDefine b (h .kind)) || isBadMap (s .known .map) h) ∷
+    check 18 (h .place) (leb definitionLimit (s .known .opened)) ∷
+    nameChecks text (s .known .here) (h .name)
+
+unfoldable pub walkDefinition : List ℕ → Place → State → Header → List Instance → Walked Made → Walked State
+walkDefinition text b s h is body =
+    let m = body .result in
+    walked (headerChecks text b s h ++ (body .checks ++ listChecks text b (h .kind) (lastOf (m .table)) is (s .held)))
+    (withHeld (declared s h m) (heldAfter (lastOf (m .table)) is (s .held)))
+
+unfoldable mutual
+  pub walkElem : Elem → List ℕ → Place → List Entry → Settings → State → Walked State
+  walkElem (definition h b is) text place env outer s =
+      walkDefinition text place s h is
+      (walkBody b text (h .kind) (s .known .here ++ env) (nearest (s .assigned .defaults) outer) (opening (s .known .table) (s .known .map) (s .known .opened + 1)))
+  walkElem (instances n is) text place env outer s = walkUse text place n is s (lookup text n (s .known .here ++ env))
+  walkElem (property p) text place env outer s = walkSetting text place s p
+
+  pub walkBody : Body → List ℕ → Kind → List Entry → Settings → State → Walked Made
+  walkBody (close p) text k env outer s = walkClose k outer s p
+  walkBody (more e rest) text k env outer s =
+      let w = walkElem e text (Inside k) env outer s in
+      let r = walkBody rest text k env outer (w .result) in
+      walked (w .checks ++ r .checks) (r .result)
+
+-- 10 for "no addrmap", at the text's end
+abbrev pub mapCheck : Given → ℕ → Check
+mapCheck map p = check 10 p (not (isGiven map))
+
+unfoldable pub fileChecks : Body → List ℕ → State → List Check
+fileChecks (close p) text s = mapCheck (s .known .map) p ∷ []
+fileChecks (more e rest) text s = let w = walkElem e text Root [] noSettings s in w .checks ++ fileChecks rest text (w .result)
+
+unfoldable pub checksOf : List ℕ → Body → List Check
+checksOf text b = fileChecks b text (opening [] Nothing 0)
+
+-- the first check that fails
+unfoldable pub firstFailing : List Check → Fault
+firstFailing [] = Sound
+firstFailing (c ∷ cs) = if c .fails then Broken (c .number) (c .place) else firstFailing cs
+
+-- the fault that a rule found
+abbrev pub faultOf : {A : Type 0} → Judged A → Fault
+faultOf (fault n p) = Broken n p
+faultOf (fine a) = Sound
+
+-- a check of a list
+pub data In (c : Check) : List Check → Type 0 where
+  in-here : {cs : List Check} → In c (c ∷ cs)
+  in-later : {d : Check} {cs : List Check} → In c cs → In c (d ∷ cs)
+
+-- "the smallest place, then the smallest number"
+abbrev pub Before : Check → Check → Type 0
+Before c d = (c .place < d .place) ⊎ ((c .place ≡ d .place) × (c .number < d .number))
+
+-- each check before all that follow
+pub data Ordered : List Check → Type 0 where
+  ordered-none : Ordered []
+  ordered-on : {c : Check} {cs : List Check} → ((d : Check) → In d cs → Before c d) → Ordered cs → Ordered (c ∷ cs)
