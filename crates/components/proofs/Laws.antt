@@ -123,7 +123,7 @@ module _ (part : ℕ) (f : FieldAt) where
     spans-no g = rw (← e, g)
 
 -- what a sound instance of a field says of its bits
-first-sound : (a b : Fault) → firstOf a b ≡ Sound → a ≡ Sound
+pub first-sound : (a b : Fault) → firstOf a b ≡ Sound → a ≡ Sound
 first-sound Sound b e = refl
 first-sound (Broken n p) b e = e
 
@@ -131,7 +131,7 @@ array-sound : (i : Instance) → instanceFault kind.Field i ≡ Sound → arrayF
 unfolding instanceFault
 array-sound i e = first-sound (arrayFault true (i .array)) _ e
 
-ranged-sound : (t : Bool) (p : ℕ) → ranged t p ≡ Sound → t ≡ true
+pub ranged-sound : (t : Bool) (p : ℕ) → ranged t p ≡ Sound → t ≡ true
 unfolding ranged
 ranged-sound true p e = refl
 ranged-sound false p e = absurd (let z : _≡_ {A = ℕ} 0 1 = cc in omega arith)

@@ -35,7 +35,7 @@ use Rattle.components.specs.declared.FieldAt.{FieldAt}
 use Rattle.table.specs.Definitions.{Child, definitionOf}
 use Rattle.closing.specs.Registers.{fieldsOf}
 use Rattle.offsets.specs.Offsets.{larger, raised, multipleFrom, commonMultiple, powerFrom, powerAbove}
-use Rattle.map.specs.Layout.{strideOf, spanOf, modeStep, stepOf, laid, laidFrom, highestEnd, largestAccess, shapesFrom, alignmentOf, modeOf}
+use Rattle.layout.specs.Layout.{bottom, strideOf, spanOf, modeStep, stepOf, laid, laidFrom, highestEnd, largestAccess, shapesFrom, alignmentOf, modeOf}
 use Rattle.map.specs.Visits.{elementVisits, childVisits, visitsIn}
 use Rattle.map.specs.Whole.{tooMany, tooClose, misplaced, everyAccess, isSharedLawfully, overlapRegisters, overlapsOne, overlapping, mapShapes, mapFault}
 
@@ -53,7 +53,7 @@ pub data Result : Type 0 where
 abbrev startsOf : Meaning → List ℕ
 startsOf m =
     let d = definitionOf (m .table) (m .map) in
-    map (λ l. l .start) (laidFrom (modeOf (d .component)) (alignmentOf (d .component)) (mapShapes m) 0 (d .instances))
+    map (λ l. l .start .0) (laidFrom (modeOf (d .component)) (alignmentOf (d .component)) (mapShapes m) bottom (d .instances))
 
 abbrev pairs : List FieldAt → List ℕ
 pairs [] = []

@@ -1,4 +1,3 @@
 pub mod Limits
-pub mod Layout
 pub mod Visits
 pub mod Whole

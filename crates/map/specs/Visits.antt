@@ -12,7 +12,9 @@ use Rattle.properties.specs.declared.Given.the-variants.{Nothing, Number}
 use Rattle.components.specs.declared.Component.{Component}
 use Rattle.components.specs.declared.Component.the-variants as component
 use Rattle.table.specs.Definitions.{Child, Definition, definitionOf}
-use Rattle.map.specs.Layout.{Shape, shapeAt, elements, Laid, laidFrom, alignmentOf}
+use Rattle.layout.specs.Layout.{shapeAt, elements, bottom, laidFrom, alignmentOf}
+use Rattle.layout.specs.declared.Shape.{Shape}
+use Rattle.layout.specs.declared.Laid.{Laid}
 
 -- a step of a path: an instance's name, and an element's index in an array
 pub record PathStep : Type 0 where
@@ -44,7 +46,7 @@ unfoldable pub elementVisits : (ℕ → List PathStep → List Visit) → List P
 elementVisits content path depth c base s l k zero = []
 elementVisits content path depth c base s l k (suc n) =
     let here = path ++ (record { name = c .instance .name; index = indexIn (c .instance .array) k } ∷ []) in
-    let address = base + (l .start + l .stride * k) in
+    let address = base + (l .start .0 + l .stride * k) in
     let short = isArray (c .instance .array) && ltb (l .stride) (s .size) in
     record { path = here; name = c .instance .name; type = c .type; address = address; depth = depth; short = short } ∷
     (content address here ++ elementVisits content path depth c base s l (suc k) n)
@@ -66,5 +68,5 @@ unfoldable pub visitsIn : ℕ → ℕ → List Definition → List Shape → ℕ
 visitsIn zero m table shapes depth d base path = []
 visitsIn (suc levels) m table shapes depth d base path =
     let c = definitionOf table d in
-    let places = laidFrom m (alignmentOf (c .component)) shapes 0 (c .instances) in
+    let places = laidFrom m (alignmentOf (c .component)) shapes bottom (c .instances) in
     ofGroup (isGroup (c .component)) (childVisits (visitsIn levels m table shapes (suc depth)) shapes path depth base (c .instances) places)

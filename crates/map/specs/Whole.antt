@@ -17,7 +17,8 @@ use Rattle.table.specs.Definitions.{Child, Definition, definitionOf}
 use Rattle.closing.specs.Registers.{fieldsOf}
 use Rattle.rules.specs.Judge.{Meaning}
 use Rattle.map.specs.Limits.{nestLimit, registerLimit, fieldLimit, addressLimit}
-use Rattle.map.specs.Layout.{Shape, shapeAt, shapesFrom, modeOf}
+use Rattle.layout.specs.Layout.{shapeAt, shapesFrom, modeOf}
+use Rattle.layout.specs.declared.Shape.{Shape}
 use Rattle.map.specs.Visits.{Visit, visitsIn}
 
 abbrev pub isRegister : Component → Bool

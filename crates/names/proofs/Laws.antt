@@ -41,7 +41,7 @@ module _ (s : List ℕ) (i h : ℕ) {x : ℕ} (at : printFrom h (drop i s) ≡ x
   unfolding printFrom
   print-end f = rw (drop-of-length-le s f) at at
 
-  pub print-next : {r : ℕ} → i < length s → r ≡ (h * 31 + getD s i 0) % 2 ^ 32 → printFrom r (drop (i + 1) s) ≡ x
+  pub print-next : {r : ℕ} → i < length s → r ≡ (h * 16777619 + getD s i 0) % 2 ^ 32 → printFrom r (drop (i + 1) s) ≡ x
   unfolding printFrom
   print-next f e = rw e (rw (drop-next s i f) at at)
 

@@ -21,7 +21,7 @@ isAmong text n (m ∷ ms) = sameName text n m || isAmong text n ms
 -- a number of 32 bits that equal byte strings share
 unfoldable pub printFrom : ℕ → List ℕ → ℕ
 printFrom h [] = h
-printFrom h (b ∷ s) = printFrom ((h * 31 + b) % 2 ^ 32) s
+printFrom h (b ∷ s) = printFrom ((h * 16777619 + b) % 2 ^ 32) s
 
 abbrev pub fingerprint : List ℕ → Name → ℕ
 fingerprint text n = printFrom 0 (bytesOf text (n .start) (n .end))

@@ -31,9 +31,9 @@ pub fn same_name(text: &[u8], a: Name, b: Name) -> bool
 
 fn next_print(print: u64, b: u8) -> u64
     requires { ⌜ print < 4294967296 ⌝ }
-    ensures { λ r. ⌜ r ≡ (print * 31 + b) % 2 ^ 32 ⌝ }
+    ensures { λ r. ⌜ r ≡ (print * 16777619 + b) % 2 ^ 32 ⌝ }
 {
-    (print * 31 + b as u64) % 4294967296
+    (print * 16777619 + b as u64) % 4294967296
 }
 
 fn print_of(bytes: &[u8]) -> u64

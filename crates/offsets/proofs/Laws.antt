@@ -25,14 +25,14 @@ module _ (x : ℕ) where
   unfolding cut
   cut-either Q p q = either Q (ltb x cap) (λ e. p (ltb-true x cap e)) (λ e. q (ltb-false x cap e))
 
-  cut-bound : cut x ≤ cap
+  pub cut-bound : cut x ≤ cap
   cut-bound = cut-either (λ (n : ℕ). n ≤ cap) (λ h. omega arith) (λ h. omega arith)
 
   -- a number up to the cap stays
   pub cut-stays : x ≤ cap → x ≡ cut x
   cut-stays l = cut-either (λ (n : ℕ). x ≡ n) (λ h. refl) (λ h. omega arith)
 
-  cut-positive : 1 ≤ x → 1 ≤ cut x
+  pub cut-positive : 1 ≤ x → 1 ≤ cut x
   cut-positive l = cut-either (λ (n : ℕ). 1 ≤ n) (λ h. l) (λ h. omega arith)
 
   pub cut-below : (n : ℕ) → n < cap → leb (cut x) n ≡ leb x n
@@ -139,7 +139,7 @@ power-reaches (suc turns) p x l e =
     either (λ (n : ℕ). x ≤ n) (leb x p) (λ h. leb-true x p h)
     (λ _. power-reaches turns (p * 2) x (omega arith) (omega arith))
 
-above-reaches : (x : ℕ) → x ≤ powerAbove x
+pub above-reaches : (x : ℕ) → x ≤ powerAbove x
 unfolding powerAbove
 above-reaches x = power-reaches x 1 x (omega arith) (omega arith)
 
@@ -333,7 +333,7 @@ module _ (a : ℕ) (t : isAlignment a ≡ true) where
   pub alignment-low : 0 < a
   alignment-low = rw (to .power) (one-le-pow (to .exponent) 2 two-positive)
 
-  alignment-high : a ≤ 65536
+  pub alignment-high : a ≤ 65536
   alignment-high = rw (to .power) (pow-le-pow-right two-positive (to .within))
 
   module _ (b : ℕ) (p : 1 ≤ b) where

@@ -109,7 +109,7 @@ fn suffix_fault(barred: bool, kind: SuffixKind, suffix: Suffix) -> Fault
     ranged_at(suffix_range(kind, number.value), number.place)
 }
 
-fn is_array(array: Array) -> bool
+pub fn is_array(array: Array) -> bool
     ensures { λ r. ⌜ r ≡ isArray array ⌝ }
 {
     match array {

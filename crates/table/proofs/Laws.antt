@@ -7,7 +7,8 @@ use native.Mathlib.Numerals.{add-one}
 use native.Mathlib.Omega.{arith}
 use lib.ListN.{length, set, getD, length-set}
 use lib.Seq.{getD-set-same, getD-set-other}
-use borrow.Author.Tests.{eq-eqb, ne-eqb, lt-ltb, le-ltb}
+use lib.Dec.{eqb, ltb}
+use borrow.Author.Tests.{eq-eqb, ne-eqb, lt-ltb, le-ltb, ltb-true, ltb-false}
 use Rattle.parts.specs.Reading.{ok}
 use Rattle.parts.specs.Parts.{instanceAt}
 use Rattle.parts.specs.Answers.{instanceRead}
@@ -25,7 +26,7 @@ use Rattle.table.specs.declared.Values.{Values}
 use Rattle.table.specs.declared.Row.{Row}
 use Rattle.table.specs.Cells.{cellOf, givenFrom, flagOf, numberOf, componentFrom, valuesOf, nameIn, belowIn, valueCells, otherCells, written, entryOf, placeIn, rowIn, printIn, moved}
 use Rattle.table.specs.Definitions.{Child, Entry, lookup, namesOf}
-use Rattle.table.specs.Relation.{Block, block-end, block-on, Chain, chain-stop, chain-on, Finds, NamedAt, EntryNamed, Among}
+use Rattle.table.specs.Relation.{Block, block-end, block-on, Chain, chain-stop, chain-on, Finds, NamedAt, EntryNamed, Among, agreeing, Agrees}
 
 -- an instance in a cell
 pub entry-place : (p r q : ℕ) → p < 131072 → r < 256 → placeIn (entryOf p r q) ≡ p
@@ -286,3 +287,62 @@ module _ (text t : List ℕ) (to : ℕ) (name : Name) where
 
         pub look-on : r ≡ false → Looking text t from to name (i + 1)
         look-on y = record { each = λ cs b n. let l = s .each cs b n in block-next h (rw (← e, ← y) a) (l .block) (l .count) (l .same) }
+
+-- a pass over fingerprints: while the sum is 0 none agreed
+pub record Counting (t : List ℕ) (from print i found : ℕ) : Type 0 where
+  pub few : found ≤ i
+  pub none : found ≡ 0 → (j : ℕ) → from ≤ j → j < i → printIn (cellOf t j) ≡ print → ⊥
+
+module _ (t : List ℕ) (from print : ℕ) where
+  pub count-start : Counting t from print from 0
+  count-start = record { few = omega arith; none = λ z j l h e. omega (arith, l, h) }
+
+  module _ {i found : ℕ} (c : Counting t from print i found) where
+    pub count-on : {a : ℕ} → a ≡ agreeing (printIn (getD t i 0)) print → Counting t from print (i + 1) (found + a)
+    count-on {a} e = by (eqb (printIn (getD t i 0)) print) refl
+      where
+        last : eqb (printIn (getD t i 0)) print ≡ false → (j : ℕ) → i ≤ j → j < i + 1 → printIn (cellOf t j) ≡ print → ⊥
+        last q j l h w =
+            let m : j ≡ i = omega arith in
+            let o : true ≡ false = sym (eq-eqb (printIn (getD t i 0)) print (rw m at w)) ∙ q in
+            let z : _≡_ {A = ℕ} 0 1 = cc in
+            omega arith
+
+        each : (x : Bool) (j : ℕ) → ltb j i ≡ x → eqb (printIn (getD t i 0)) print ≡ false → found ≡ 0 → from ≤ j → j < i + 1 → printIn (cellOf t j) ≡ print → ⊥
+        each true j x q y l h w = c .none y j l (ltb-true j i x) w
+        each false j x q y l h w = last q j (ltb-false j i x) h w
+
+        by : (b : Bool) → eqb (printIn (getD t i 0)) print ≡ b → Counting t from print (i + 1) (found + a)
+        by true q =
+            let z : a ≡ 1 = rw q at e in
+            record { few = omega (arith, c .few, z); none = λ y j l h w. omega (arith, y, z) }
+        by false q =
+            let z : a ≡ 0 = rw q at e in
+            record { few = omega (arith, c .few, z); none = λ y j l h w. each (ltb j i) j refl q (omega (arith, y, z)) l h w }
+
+    pub count-none : {to : ℕ} → to ≤ i → found ≡ 0 → Agrees t from to print false
+    count-none h y = record { none = λ z j l k e. c .none y j l (omega (arith, k, h)) e }
+
+    pub count-some : {to : ℕ} → Agrees t from to print true
+    count-some = record { none = λ z j l k e. absurd (let o : _≡_ {A = ℕ} 0 1 = cc in omega arith) }
+
+pub agrees-few : (t : List ℕ) (from to print : ℕ) → Agrees t from to print true
+agrees-few t from to print = record { none = λ z j l k e. absurd (let o : _≡_ {A = ℕ} 0 1 = cc in omega arith) }
+
+pub agreeing-yes : (a b : ℕ) → a ≡ b → 1 ≡ agreeing a b
+agreeing-yes a b e = rw (eq-eqb a b e)
+
+pub agreeing-no : (a b : ℕ) → (a ≡ b → ⊥) → 0 ≡ agreeing a b
+agreeing-no a b e = rw (ne-eqb a b e)
+
+-- where no fingerprint agrees the name stands nowhere
+none-among : (text t : List ℕ) (from to : ℕ) (name : Name) {print i : ℕ} {cs : List Child} → print ≡ fingerprint text name
+    → ((j : ℕ) → from ≤ j → j < to → printIn (cellOf t j) ≡ print → ⊥) → from ≤ i → i + length cs ≡ to → Block text t i cs → false ≡ isAmong text name (namesOf cs)
+unfolding isAmong
+none-among text t from to name e none l h block-end = refl
+none-among text t from to name {i = i} e none l h (block-on {c = c} {cs = cs} x b) =
+    let d : fingerprint text name ≡ fingerprint text (c .instance .name) → ⊥ = λ q. none i l (omega (arith, h)) (x .print ∙ sym q ∙ sym e) in
+    rw (other-print text name (c .instance .name) d) (none-among text t from to name e none (omega (arith, l)) (omega (arith, h)) b)
+
+pub look-none : (text t : List ℕ) (from to : ℕ) (name : Name) {print : ℕ} {b : Bool} → print ≡ fingerprint text name → Agrees t from to print b → b ≡ false → Among text t from to name false
+look-none text t from to name e a y = record { each = λ cs b h. none-among text t from to name e (a .none y) (omega arith) h b }

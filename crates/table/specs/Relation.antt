@@ -3,6 +3,7 @@ use mathlib.Core.Path.{_≡_}
 use mathlib.Core.Bool.{Bool, true, false}
 use mathlib.Core.List.{List, [], _∷_, map}
 use Prim.Native.Nat.{ℕ, suc, _+_, _*_, _<_, _≤_}
+use lib.Dec.{eqb}
 use lib.ListN.{length, getD}
 use Rattle.chars.specs.Choice.{if_then_else_}
 use Rattle.parts.specs.Reading.{Parsed, ok}
@@ -56,6 +57,14 @@ pub record NamedAt (text : List ℕ) (place : ℕ) (name : Name) (answer : Bool)
 
 pub record EntryNamed (text : List ℕ) (x : ℕ) (name : Name) (answer : Bool) : Type 0 where
   pub each : (c : Child) → IsEntry text x c → answer ≡ sameName text name (c .instance .name)
+
+-- 1 for equal fingerprints
+abbrev pub agreeing : ℕ → ℕ → ℕ
+agreeing a b = if eqb a b then 1 else 0
+
+-- what `any_agrees` answers: where it says no, no cell from one up to another has this fingerprint
+pub record Agrees (t : List ℕ) (from to print : ℕ) (answer : Bool) : Type 0 where
+  pub none : answer ≡ false → (j : ℕ) → from ≤ j → j < to → printIn (cellOf t j) ≡ print → ⊥
 
 -- what `is_held` answers, for all instances that stand there
 pub record Among (text t : List ℕ) (from to : ℕ) (name : Name) (answer : Bool) : Type 0 where

@@ -12,7 +12,7 @@ ghost use Prim.Native.Nat.{ℕ, _+_, _*_, _≤_, _<_};
 ghost use lib.ListN.{length, set};
 ghost use Rattle.table.specs.Cells.{cellOf, rank, givenFrom, flagOf, numberOf, componentFrom, valuesIn, valuesOf, componentIn, firstIn, countIn, nameIn, belowIn, valueCells, otherCells, written, entryOf, placeIn, rowIn, printIn, moved};
 ghost use Rattle.names.specs.Names.{fingerprint};
-ghost use Rattle.table.specs.Relation.{Finds, NamedAt, EntryNamed, Among};
+ghost use Rattle.table.specs.Relation.{Finds, NamedAt, EntryNamed, agreeing, Agrees, Among};
 
 // Where the instances of closed definitions stand, and where those of open bodies do.
 pub const FILED: usize = 4096;
@@ -362,11 +362,43 @@ fn is_entry_named(text: &[u8], entry: u64, name: Name, print: u64) -> bool
     is_named_at(text, place_in(entry), name)
 }
 
+// 1 where a cell has this fingerprint.
+fn agrees(entry: u64, print: u64) -> u64
+    ensures { λ r. ⌜ (r ≡ agreeing (printIn entry) print) × (r ≤ 1) ⌝ }
+{
+    if entry / 33554432 == print {
+        return 1;
+    }
+    0
+}
+
+// Whether some cell from one up to another may have this fingerprint: a pass with nothing but a sum in it, so that it is quick.
+fn any_agrees(cells: &[u64], from: usize, to: usize, print: u64) -> bool
+    ensures { λ r. ⌜ Agrees (now (cells .entry)) from to print r ⌝ }
+{
+    if cells.len() < to {
+        return true;
+    }
+    let mut found = 0;
+    let mut i = from;
+    while i < to {
+        found += agrees(cells[i], print);
+        i += 1;
+    }
+    if found == 0 {
+        return false;
+    }
+    true
+}
+
 // Whether a name stands before in a body: among the instances from one cell up to another.
 pub fn is_held(text: &[u8], cells: &[u64], from: usize, to: usize, name: Name) -> bool
     ensures { λ r. ⌜ Among (now (text .entry)) (now (cells .entry)) from to name r ⌝ }
 {
     let print = names::fingerprint_of(text, name);
+    if !any_agrees(cells, from, to, print) {
+        return false;
+    }
     let mut i = from;
     while i < to {
         if is_entry_named(text, cell(cells, i), name, print) {

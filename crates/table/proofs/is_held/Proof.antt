@@ -1,7 +1,8 @@
 -- For all instances that stand there, the name is among those left to look at exactly when it is among all.
 use borrow.Author.Needs.{needs}
+use borrow.Author.Tests.{not-true, not-false}
 use Prim.Native.Nat.{_-_}
-use Rattle.table.proofs.Laws.{Looking, look-start, look-here, look-on, look-end}
+use Rattle.table.proofs.Laws.{Looking, look-start, look-here, look-on, look-end, look-none}
 use Rattle.table.proofs.is_held.Statement.{statement}
 use Rattle.table.proofs.is_held.Tie as tie
 
@@ -18,6 +19,8 @@ is-held-spec =
     Inv-loop
     μ-loop
     (λ c κs. search needs)
+    (λ c κs. search needs)
+    (λ c. search (look-none, not-true))
     (λ c. search look-start)
     (λ c κs. search needs)
     (λ c κs. search needs)

@@ -1,8 +1,8 @@
 -- Addresses (document 01, "Addresses"): where the instances of a body lie, and how large a definition is, in whole numbers.
-use mathlib.Core.Bool.{Bool, true, false, _&&_}
+use mathlib.Core.Bool.{_&&_}
 use mathlib.Core.List.{List, [], _∷_, _++_}
 use Prim.Native.Nat.{ℕ, _+_, _-_, _*_, _/_}
-use lib.Dec.{eqb, ltb}
+use lib.Dec.{eqb}
 use lib.ListN.{getD}
 use Rattle.chars.specs.Choice.{if_then_else_}
 use Rattle.parts.specs.declared.Array.{Array}
@@ -19,15 +19,13 @@ use Rattle.properties.specs.declared.Given.the-variants.{Nothing, Number}
 use Rattle.components.specs.Components.{startOf}
 use Rattle.components.specs.declared.Component.{Component}
 use Rattle.components.specs.declared.Component.the-variants as component
+use Rattle.components.specs.declared.Offset.{Offset}
 use Rattle.components.specs.declared.Start.{Start}
 use Rattle.components.specs.declared.Start.the-variants as start
-use Rattle.offsets.specs.Offsets.{larger, raised, commonMultiple, powerAbove}
+use Rattle.offsets.specs.Offsets.{cut, larger, raised, commonMultiple, powerAbove}
 use Rattle.table.specs.Definitions.{Child, Definition}
-
--- an element's size and its access width, in bytes: "of a regfile, the largest inside"
-pub record Shape : Type 0 where
-  pub size : ℕ
-  pub access : ℕ
+use Rattle.layout.specs.declared.Shape.{Shape}
+use Rattle.layout.specs.declared.Laid.{Laid}
 
 -- how many elements an instance has; one that is no array has one
 abbrev pub elements : Array → ℕ
@@ -71,15 +69,14 @@ startAfter (start.At o) end step = o .0
 startAfter start.Free end step = raised end step
 
 -- where an instance lies in its body: its first element's offset, its stride, and its end
-pub record Laid : Type 0 where
-  pub start : ℕ
-  pub stride : ℕ
-  pub end : ℕ
-
-unfoldable pub laid : ℕ → Given → Shape → Instance → ℕ → Laid
+unfoldable pub laid : ℕ → Given → Shape → Instance → Offset → Laid
 laid m alignment s i end =
-    let from = startAfter (startOf (i .address)) end (stepOf m alignment s i) in
-    record { start = from; stride = strideOf alignment s i; end = from + spanOf alignment s i }
+    let from = startAfter (startOf (i .address)) (end .0) (stepOf m alignment s i) in
+    record { start = record { 0 = from }; stride = strideOf alignment s i; end = record { 0 = from + spanOf alignment s i } }
+
+-- the offset of a body's first byte
+abbrev pub bottom : Offset
+bottom = record { 0 = 0 }
 
 abbrev pub noShape : Shape
 noShape = record { size = 0; access = 0 }
@@ -88,7 +85,7 @@ abbrev pub shapeAt : List Shape → ℕ → Shape
 shapeAt shapes n = getD shapes n noShape
 
 -- the instances of a body, one after another, the first behind the offset `end`
-unfoldable pub laidFrom : ℕ → Given → List Shape → ℕ → List Child → List Laid
+unfoldable pub laidFrom : ℕ → Given → List Shape → Offset → List Child → List Laid
 laidFrom m alignment shapes end [] = []
 laidFrom m alignment shapes end (c ∷ cs) =
     let l = laid m alignment (shapeAt shapes (c .type)) (c .instance) end in
@@ -97,7 +94,7 @@ laidFrom m alignment shapes end (c ∷ cs) =
 -- "A regfile's size is its highest end"
 unfoldable pub highestEnd : List Laid → ℕ
 highestEnd [] = 0
-highestEnd (l ∷ ls) = larger (l .end) (highestEnd ls)
+highestEnd (l ∷ ls) = larger (l .end .0) (highestEnd ls)
 
 unfoldable pub largestAccess : List Shape → List Child → ℕ
 largestAccess shapes [] = 0
@@ -105,7 +102,7 @@ largestAccess shapes (c ∷ cs) = larger (shapeAt shapes (c .type) .access) (lar
 
 -- a definition's shape, from those of the definitions before it
 abbrev pub groupShape : ℕ → Given → List Shape → List Child → Shape
-groupShape m alignment shapes cs = record { size = highestEnd (laidFrom m alignment shapes 0 cs); access = largestAccess shapes cs }
+groupShape m alignment shapes cs = record { size = highestEnd (laidFrom m alignment shapes bottom cs); access = largestAccess shapes cs }
 
 abbrev pub shapeOf : ℕ → List Shape → Component → List Child → Shape
 shapeOf m shapes (component.Field f) cs = noShape
@@ -130,3 +127,13 @@ modeOf (component.Field f) = modeCode mode.Regalign
 modeOf (component.Register r) = modeCode mode.Regalign
 modeOf (component.Regfile a) = modeCode mode.Regalign
 modeOf (component.Addrmap a m) = orElse (modeCode mode.Regalign) m
+
+-- numbers cut at the cap, as the code keeps them
+abbrev pub cutShape : Shape → Shape
+cutShape s = record { size = cut (s .size); access = cut (s .access) }
+
+abbrev pub cutOffset : Offset → Offset
+cutOffset o = record { 0 = cut (o .0) }
+
+abbrev pub cutLaid : Laid → Laid
+cutLaid l = record { start = cutOffset (l .start); stride = cut (l .stride); end = cutOffset (l .end) }

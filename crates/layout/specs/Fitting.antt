@@ -1,0 +1,37 @@
+-- What the layout of an instance is asked for: numbers in the ranges that the rules give.
+use mathlib.Core.Path.{_≡_}
+use Prim.Native.Nat.{ℕ, _<_, _≤_}
+use Rattle.parts.specs.declared.Kind.{Kind}
+use Rattle.parts.specs.declared.Kind.the-variants as kind
+use Rattle.parts.specs.declared.Instance.{Instance}
+use Rattle.settings.specs.Settings.{isField, isAlignment}
+use mathlib.Core.Bool.{Bool, true, false}
+use Rattle.suffixes.specs.Suffixes.{instanceFault}
+use Rattle.suffixes.specs.declared.Fault.the-variants.{Sound}
+use Rattle.properties.specs.Assigned.{orElse}
+use Rattle.properties.specs.declared.Given.{Given}
+use Rattle.components.specs.declared.Offset.{Offset}
+use Rattle.components.specs.declared.Start.{Start}
+use Rattle.components.specs.declared.Start.the-variants as start
+use Rattle.offsets.specs.Offsets.{cap, cut}
+use Rattle.layout.specs.Layout.{startAfter}
+use Rattle.layout.specs.declared.Shape.{Shape}
+
+-- a body's alignment, an element's shape and an instance of a register or regfile whose suffixes are sound
+pub record Fitting (alignment : Given) (s : Shape) (i : Instance) : Type 0 where
+  pub aligned : isAlignment (orElse 1 alignment) ≡ true
+  pub sized : (1 ≤ s .size) × (s .size ≤ cap)
+  pub accessed : (1 ≤ s .access) × (s .access ≤ cap)
+  pub kind : Kind
+  pub addressed : isField kind ≡ false
+  pub sound : instanceFault kind i ≡ Sound
+
+-- an address that is given lies below the cap
+pub data StartBelow : Start → Type 0 where
+  start-free : StartBelow start.Free
+  start-at : {o : Offset} → o .0 < cap → StartBelow (start.At o)
+
+-- where an instance starts, cut at the cap: an address that is given is below the cap
+pub record StartsAt (start : Start) (end step r : ℕ) : Type 0 where
+  pub each : StartBelow start → r ≡ cut (startAfter start end step)
+  pub low : StartBelow start → r ≤ cap

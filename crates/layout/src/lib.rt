@@ -1,0 +1,129 @@
+// Where an instance lies in its body: its step, its stride, its span, its start and its end, in numbers cut at a cap above every address.
+use components::Offset;
+use components::Start;
+use parts::Array;
+use parts::Instance;
+use parts::Suffix;
+use properties::Given;
+use settings::Mode;
+ghost use mathlib.Core.Path.{_≡_};
+ghost use Prim.Native.Nat.{_≤_};
+ghost use Rattle.offsets.specs.Offsets.{cap, cut};
+ghost use Rattle.layout.specs.Layout.{elements, strideOr, strideOf, spanOf, modeStep, stepOf, laid, cutLaid};
+ghost use Rattle.layout.specs.Fitting.{Fitting, StartsAt};
+
+// The size of an element and its access width, in bytes.
+pub struct Shape {
+    pub size: u64,
+    pub access: u64,
+}
+
+// Where an instance lies in its body: its first element's offset, its stride, and its end.
+pub struct Laid {
+    pub start: Offset,
+    pub stride: u64,
+    pub end: Offset,
+}
+
+// How many elements an instance has.
+pub fn elements_of(array: Array) -> u64
+    ensures { λ r. ⌜ r ≡ elements array ⌝ }
+{
+    match array {
+        Array::Missing => 1,
+        Array::Size(_, size) => size.value,
+        Array::Range(_, _, _) => 1,
+    }
+}
+
+// A suffix's number, or the standard.
+fn number_or(suffix: Suffix, standard: u64) -> u64
+    ensures { λ r. ⌜ r ≡ strideOr suffix standard ⌝ }
+{
+    match suffix {
+        Suffix::Missing => standard,
+        Suffix::Given(_, number) => number.value,
+    }
+}
+
+// The distance of two elements of an array.
+pub fn stride_of(alignment: Given, shape: Shape, instance: Instance) -> u64
+    requires { ⌜ Fitting alignment shape instance ⌝ }
+    ensures { λ r. ⌜ (r ≡ cut (strideOf alignment shape instance)) × (r ≤ cap) ⌝ }
+{
+    let stride = instance.stride;
+    let step = properties::or_else(1, alignment);
+    let standard = offsets::raise(shape.size, step);
+    number_or(stride, standard)
+}
+
+// What all elements of an instance take.
+fn span_of(alignment: Given, shape: Shape, instance: Instance) -> u64
+    requires { ⌜ Fitting alignment shape instance ⌝ }
+    ensures { λ r. ⌜ (r ≡ cut (spanOf alignment shape instance)) × (r ≤ cap) ⌝ }
+{
+    let array = instance.array;
+    let stride = stride_of(alignment, shape, instance);
+    let count = elements_of(array);
+    let before = offsets::product(stride, count - 1);
+    offsets::sum(before, shape.size)
+}
+
+// The step that the map's mode gives.
+fn mode_step(mode: u64, alignment: Given, shape: Shape, instance: Instance) -> u64
+    requires { ⌜ Fitting alignment shape instance ⌝ }
+    ensures { λ r. ⌜ (r ≡ cut (modeStep mode alignment shape instance)) × (1 ≤ r) × (r ≤ cap) ⌝ }
+{
+    let array = instance.array;
+    if mode == settings::mode_code(Mode::Compact) {
+        return shape.access;
+    }
+    if mode != settings::mode_code(Mode::Fullalign) {
+        return shape.size;
+    }
+    if !suffixes::is_array(array) {
+        return shape.size;
+    }
+    let span = span_of(alignment, shape, instance);
+    offsets::power_above(span)
+}
+
+// The number that an instance's offset is a multiple of.
+fn step_of(mode: u64, alignment: Given, shape: Shape, instance: Instance) -> u64
+    requires { ⌜ Fitting alignment shape instance ⌝ }
+    ensures { λ r. ⌜ (r ≡ cut (stepOf mode alignment shape instance)) × (1 ≤ r) × (r ≤ cap) ⌝ }
+{
+    let suffix = instance.alignment;
+    let own = properties::or_else(1, alignment);
+    let standard = offsets::common_multiple(own, mode_step(mode, alignment, shape, instance));
+    number_or(suffix, standard)
+}
+
+// The offset of an instance behind the one that ends at `end`.
+fn start_after(start: Start, end: u64, step: u64) -> u64
+    requires { ⌜ (end ≤ cap) × (1 ≤ step) × (step ≤ cap) ⌝ }
+    ensures { λ r. ⌜ StartsAt start end step r ⌝ }
+{
+    match start {
+        Start::At(offset) => offset.0,
+        Start::Free => offsets::raise(end, step),
+    }
+}
+
+// Where an instance lies behind the one that ends at `end`, in a map of this mode.
+pub fn lay(mode: u64, alignment: Given, shape: Shape, instance: Instance, end: Offset) -> Laid
+    requires { ⌜ Fitting alignment shape instance × (end .0 ≤ cap) ⌝ }
+    ensures { λ r. ⌜ (r ≡ cutLaid (laid mode alignment shape instance end)) × (r .end .0 ≤ cap) ⌝ }
+{
+    let fixed = components::start_of(instance);
+    let step = step_of(mode, alignment, shape, instance);
+    let start = start_after(fixed, end.0, step);
+    let stride = stride_of(alignment, shape, instance);
+    let span = span_of(alignment, shape, instance);
+    let past = offsets::sum(start, span);
+    Laid {
+        start: Offset(start),
+        stride,
+        end: Offset(past),
+    }
+}
