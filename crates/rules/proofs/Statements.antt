@@ -1,5 +1,5 @@
 -- Statements: instances of a type that is visible, and property settings.
-use mathlib.Core.Path.{_≡_, refl, sym, ap, _∙_}
+use mathlib.Core.Path.{_≡_, refl, sym, ap, _∙_, subst}
 use mathlib.Core.Bool.{Bool, true, false}
 use mathlib.Core.List.{List, [], _∷_, _++_}
 use Prim.Native.Nat.{ℕ, zero, suc, _+_, _*_, _<_, _≤_}
@@ -152,7 +152,9 @@ module _ (text t : List ℕ) (scope : Scope) (w : Walk) where
               let o : mapped (instances name) (instancesAt text next) ≡ ok e n = rw (sym named) at q in
               let p = mapped-piece (instances name) (instancesAt text next) o in
               let m : meaning ≡ lookup text name (s .known .here ++ env) = h .each (s .known .here ++ env) (chain-join (st .types) c) in
-              rw (← p .made, ← m) (v .each (p .piece) n s (p .read) st)
+              let k : Matches text u scope n (judgeUse text (scope .place) name (p .piece) s (lookup text name (s .known .here ++ env))) r =
+              subst (λ (g : Given). Matches text u scope n (judgeUse text (scope .place) name (p .piece) s g) r) m (v .each (p .piece) n s (p .read) st) in
+              rw (← p .made) k
 
   -- a property statement
   pub setting-steps : {kind : Kind} {r : Step} → Fits (length text) scope w → scope .place ≡ Inside kind → r ≡ settingStep text kind w (propertyAt text (w .at))

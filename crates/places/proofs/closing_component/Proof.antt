@@ -1,4 +1,6 @@
 use borrow.Author.Needs.{needs}
+use mathlib.Core.Path.{ap, _∙_}
+use Rattle.components.specs.Components.{componentOf}
 use Rattle.places.proofs.closing_component.Statement.{statement}
 use Rattle.places.proofs.closing_component.Tie as tie
 
@@ -8,4 +10,4 @@ closing-component-spec =
     (tie.spec
     (λ c κs. search needs)
     (λ c κs. search needs)
-    (λ c. rw (← c .before .nearest-of .ensures) (c .component-of .ensures)))
+    (λ c. c .component-of .ensures ∙ ap (componentOf _) (c .before .nearest-of .ensures)))
