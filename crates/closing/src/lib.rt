@@ -33,7 +33,7 @@ fn place_field(next: BitPlace, instance: Instance, field: FieldType) -> Placed
 }
 
 // The instance of a component as a field, where `next` is the bit above the field before it.
-fn placed_as(component: Component, next: BitPlace, instance: Instance) -> Placed
+pub fn placed_as(component: Component, next: BitPlace, instance: Instance) -> Placed
     requires { ⌜ next .0 < 4294967296 ⌝ }
     ensures { λ r. ⌜ PlacedAs component next instance r ⌝ }
 {
@@ -58,7 +58,7 @@ fn field_in(text: &[u8], cells: &[u64], entry: u64, next: BitPlace) -> Placed
 }
 
 // Where the field behind this one starts.
-fn bit_above(placed: Placed, next: BitPlace) -> BitPlace
+pub fn bit_above(placed: Placed, next: BitPlace) -> BitPlace
     requires { ⌜ topOf placed < 4294967296 ⌝ }
     ensures { λ r. ⌜ r ≡ bitAbove placed next ⌝ }
 {

@@ -37,7 +37,7 @@ use Rattle.closing.specs.Registers.{fieldsOf}
 use Rattle.offsets.specs.Offsets.{larger, raised, multipleFrom, commonMultiple, powerFrom, powerAbove}
 use Rattle.layout.specs.Layout.{bottom, strideOf, spanOf, modeStep, stepOf, laid, laidFrom, highestEnd, largestAccess, shapesFrom, alignmentOf, modeOf}
 use Rattle.map.specs.Visits.{elementVisits, childVisits, visitsIn}
-use Rattle.map.specs.Whole.{tooMany, tooClose, misplaced, everyAccess, isSharedLawfully, overlapRegisters, overlapsOne, overlapping, mapShapes, mapFault}
+use Rattle.map.specs.Whole.{tooMany, tooClose, misplaced, everyAccess, isPair, isSharedLawfully, overlapRegisters, overlapsOne, overlapping, mapShapes, mapFault}
 
 -- what is asked of a text: where the map's instances start; the bits of the fields of the map's first register, each high and low; or
 -- its refusal

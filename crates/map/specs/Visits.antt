@@ -21,13 +21,13 @@ pub record PathStep : Type 0 where
   pub name : Name
   pub index : Given
 
--- an element: its path, its type's definition, its address, and whether its array's stride is below its size (19)
+-- an element: its path below the map, its own name, its type's definition, its address, and whether its array's stride is below its
+-- size (19)
 pub record Visit : Type 0 where
   pub path : List PathStep
   pub name : Name
   pub type : ℕ
   pub address : ℕ
-  pub depth : ℕ
   pub short : Bool
 
 abbrev pub indexIn : Array → ℕ → Given
@@ -42,31 +42,31 @@ isGroup (component.Regfile a) = true
 isGroup (component.Addrmap a m) = true
 
 -- the elements of an instance from the k-th on, `n` of them, each followed by its content
-unfoldable pub elementVisits : (ℕ → List PathStep → List Visit) → List PathStep → ℕ → Child → ℕ → Shape → Laid → ℕ → ℕ → List Visit
-elementVisits content path depth c base s l k zero = []
-elementVisits content path depth c base s l k (suc n) =
+unfoldable pub elementVisits : (ℕ → List PathStep → List Visit) → List PathStep → Child → ℕ → Shape → Laid → ℕ → ℕ → List Visit
+elementVisits content path c base s l k zero = []
+elementVisits content path c base s l k (suc n) =
     let here = path ++ (record { name = c .instance .name; index = indexIn (c .instance .array) k } ∷ []) in
     let address = base + (l .start .0 + l .stride * k) in
     let short = isArray (c .instance .array) && ltb (l .stride) (s .size) in
-    record { path = here; name = c .instance .name; type = c .type; address = address; depth = depth; short = short } ∷
-    (content address here ++ elementVisits content path depth c base s l (suc k) n)
+    record { path = here; name = c .instance .name; type = c .type; address = address; short = short } ∷
+    (content address here ++ elementVisits content path c base s l (suc k) n)
 
 -- the instances of a body, laid there
-unfoldable pub childVisits : (ℕ → ℕ → List PathStep → List Visit) → List Shape → List PathStep → ℕ → ℕ → List Child → List Laid → List Visit
-childVisits content shapes path depth base [] ls = []
-childVisits content shapes path depth base (c ∷ cs) [] = []
-childVisits content shapes path depth base (c ∷ cs) (l ∷ ls) =
-    elementVisits (content (c .type)) path depth c base (shapeAt shapes (c .type)) l 0 (elements (c .instance .array)) ++
-    childVisits content shapes path depth base cs ls
+unfoldable pub childVisits : (ℕ → ℕ → List PathStep → List Visit) → List Shape → List PathStep → ℕ → List Child → List Laid → List Visit
+childVisits content shapes path base [] ls = []
+childVisits content shapes path base (c ∷ cs) [] = []
+childVisits content shapes path base (c ∷ cs) (l ∷ ls) =
+    elementVisits (content (c .type)) path c base (shapeAt shapes (c .type)) l 0 (elements (c .instance .array)) ++
+    childVisits content shapes path base cs ls
 
 abbrev pub ofGroup : Bool → List Visit → List Visit
 ofGroup true vs = vs
 ofGroup false vs = []
 
 -- the content of a definition at an address, down to so many levels; a register has none
-unfoldable pub visitsIn : ℕ → ℕ → List Definition → List Shape → ℕ → ℕ → ℕ → List PathStep → List Visit
-visitsIn zero m table shapes depth d base path = []
-visitsIn (suc levels) m table shapes depth d base path =
+unfoldable pub visitsIn : ℕ → ℕ → List Definition → List Shape → ℕ → ℕ → List PathStep → List Visit
+visitsIn zero m table shapes d base path = []
+visitsIn (suc levels) m table shapes d base path =
     let c = definitionOf table d in
     let places = laidFrom m (alignmentOf (c .component)) shapes bottom (c .instances) in
-    ofGroup (isGroup (c .component)) (childVisits (visitsIn levels m table shapes (suc depth)) shapes path depth base (c .instances) places)
+    ofGroup (isGroup (c .component)) (childVisits (visitsIn levels m table shapes) shapes path base (c .instances) places)

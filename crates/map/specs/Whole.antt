@@ -16,7 +16,7 @@ use Rattle.components.specs.declared.FieldAt.{FieldAt}
 use Rattle.table.specs.Definitions.{Child, Definition, definitionOf}
 use Rattle.closing.specs.Registers.{fieldsOf}
 use Rattle.rules.specs.Judge.{Meaning}
-use Rattle.map.specs.Limits.{nestLimit, registerLimit, fieldLimit, addressLimit}
+use Rattle.rows.specs.Limits.{nestLimit, registerLimit, fieldLimit, addressLimit}
 use Rattle.layout.specs.Layout.{shapeAt, shapesFrom, modeOf}
 use Rattle.layout.specs.declared.Shape.{Shape}
 use Rattle.map.specs.Visits.{Visit, visitsIn}
@@ -39,7 +39,7 @@ tooMany table registers fields [] = Sound
 tooMany table registers fields (v ∷ vs) =
     let r = if isRegisterVisit table v then suc registers else registers in
     let f = if isRegisterVisit table v then fields + length (definitionOf table (v .type) .instances) else fields in
-    if ltb nestLimit (v .depth) || (ltb registerLimit r || ltb fieldLimit f) then offence 18 v else
+    if ltb nestLimit (length (v .path)) || (ltb registerLimit r || ltb fieldLimit f) then offence 18 v else
     tooMany table r f vs
 
 -- 19: "stride below element size"
@@ -60,19 +60,21 @@ unfoldable pub everyAccess : ℕ → List FieldAt → Bool
 everyAccess a [] = true
 everyAccess a (f ∷ fs) = eqb (f .values .sw) a && everyAccess a fs
 
-abbrev pub hasAccess : List Definition → ℕ → Visit → Bool
-hasAccess table a v = everyAccess a (fieldsOf table (definitionOf table (v .type) .instances))
+abbrev pub hasAccess : List Definition → ℕ → ℕ → Bool
+hasAccess table a type = everyAccess a (fieldsOf table (definitionOf table type .instances))
 
-unfoldable pub isSharedLawfully : List Definition → Visit → Visit → Bool
-isSharedLawfully table v u =
-    (hasAccess table (accessCode access.R) v && hasAccess table (accessCode access.W) u) ||
-    (hasAccess table (accessCode access.W) v && hasAccess table (accessCode access.R) u)
+-- "one read-only and one write-only"
+unfoldable pub isPair : List Definition → ℕ → ℕ → Bool
+isPair table reader writer = hasAccess table (accessCode access.R) reader && hasAccess table (accessCode access.W) writer
+
+unfoldable pub isSharedLawfully : List Definition → ℕ → ℕ → Bool
+isSharedLawfully table a b = isPair table a b || isPair table b a
 
 -- 21: whether two registers share a byte unlawfully
 unfoldable pub overlapRegisters : List Definition → List Shape → Visit → Visit → Bool
 overlapRegisters table shapes v u =
     (ltb (v .address) (u .address + shapeAt shapes (u .type) .size) && ltb (u .address) (v .address + shapeAt shapes (v .type) .size)) &&
-    not (isSharedLawfully table v u)
+    not (isSharedLawfully table (v .type) (u .type))
 
 unfoldable pub overlapsOne : List Definition → List Shape → Visit → List Visit → Bool
 overlapsOne table shapes v [] = false
@@ -85,12 +87,21 @@ overlapping table shapes earlier (v ∷ vs) =
     if isRegisterVisit table v && overlapsOne table shapes v earlier then offence 21 v else
     overlapping table shapes (earlier ++ (v ∷ [])) vs
 
+-- the registers among these elements, and how many fields they have
+unfoldable pub registersAmong : List Definition → List Visit → List Visit
+registersAmong table [] = []
+registersAmong table (v ∷ vs) = if isRegisterVisit table v then v ∷ registersAmong table vs else registersAmong table vs
+
+unfoldable pub fieldsAmong : List Definition → List Visit → ℕ
+fieldsAmong table [] = 0
+fieldsAmong table (v ∷ vs) = if isRegisterVisit table v then length (definitionOf table (v .type) .instances) + fieldsAmong table vs else fieldsAmong table vs
+
 -- the shapes and the elements of a text's map
 abbrev pub mapShapes : Meaning → List Shape
 mapShapes m = shapesFrom (modeOf (definitionOf (m .table) (m .map) .component)) [] (m .table)
 
 abbrev pub mapVisits : Meaning → List Visit
-mapVisits m = visitsIn (suc nestLimit) (modeOf (definitionOf (m .table) (m .map) .component)) (m .table) (mapShapes m) 1 (m .map) 0 []
+mapVisits m = visitsIn (suc nestLimit) (modeOf (definitionOf (m .table) (m .map) .component)) (m .table) (mapShapes m) (m .map) 0 []
 
 unfoldable pub mapFault : Meaning → Fault
 mapFault m =

@@ -274,7 +274,7 @@ module _ (text t₀ : List ℕ) where
       where
         ruled : {state : State} (m : Given) → Standing text t rootScope w state → FileMatches text t (meaningOf (state .known) m (k .start)) (rulingOf w (k .start) m)
         ruled Nothing st = file-fault
-        ruled (Number d) st = file-map (st .rows)
+        ruled (Number d) st = file-map {closed = w .closed} {filed = w .filed} (st .rows) (omega (arith, g .fits .closed, g .fits .opened)) (omega (arith, g .fits .room, g .fits .inside, g .fits .short))
 
         ended : {tree : Body} {n : ℕ} {state : State} {answer : Judged Meaning} → Files text (w .at) tree n → Standing text t rootScope w state → judgeFile tree text state ≡ answer → FileMatches text t answer r
         ended {state = state} (files-end h) st z =

@@ -27,7 +27,7 @@ use Rattle.places.specs.declared.Ruling.{Ruling}
 use Rattle.places.specs.declared.Ruling.the-variants as ruling
 use Rattle.rules.specs.Judge.{Meaning, judge}
 use Rattle.rules.specs.Standing.{FileMatches, file-fault, file-map, Rules}
-use Rattle.rules.specs.Rules.{afterWords, afterSentences, ruled, ruledIn, judgedVerdict, rulesVerdict, withInstance, instancesIn, definitionIn, definitionsIn, ruledAs}
+use Rattle.rules.specs.Rules.{afterWords, afterSentences, ruled, ruledIn, judgedVerdict, rulesVerdict, withInstance, instancesIn, definitionIn, definitionsIn, ruledAs, Held, held-not, held-all}
 
 -- the cells say what they hold
 pub instances-said : {text t : List ℕ} {i : ℕ} {cs : List Child} → Block text t i cs → instancesIn text t i (length cs) ≡ cs
@@ -88,11 +88,25 @@ module _ (text t : List ℕ) {v : Verdict} (e : v ≡ wordsVerdict text) where
       where
         matched : {j : Judged Meaning} {r : Ruling} → FileMatches text t j r → ruledAs text t r ≡ j
         matched file-fault = refl
-        matched (file-map {m = m} k) = rw (table-said k)
+        matched (file-map {m = m} k few room) = rw (table-said k)
 
         by : (y : Parsed Body) → fileAt text ≡ y → sentenceVerdictOf (answerOf y) ≡ Accepted → ruledAs text t r ≡ afterSentences text y
         by (ok b n) q z = matched (x .each b n l q)
         by (stop n p) q z = absurd (let o : _≡_ {A = ℕ} 0 1 = cc in omega arith)
+
+-- and hold it
+module _ (text t : List ℕ) {v w : Verdict} (f : v ≡ Accepted) (e : v ≡ wordsVerdict text) (g : w ≡ sentenceVerdict text) (h : w ≡ Accepted) {t₀ : List ℕ} (l : size ≤ length t₀) where
+  pub held-rules : {r : Ruling} → Rules text t₀ t r → Held text t r
+  unfolding sentenceVerdict answerOf
+  held-rules {r} x = by (fileAt text) refl (sym g ∙ h)
+    where
+      matched : {j : Judged Meaning} {r : Ruling} → FileMatches text t j r → Held text t r
+      matched file-fault = held-not
+      matched (file-map {m = m} {closed} {filed} k few room) = held-all {row = m .map} few room (rw (table-said k) k)
+
+      by : (y : Parsed Body) → fileAt text ≡ y → sentenceVerdictOf (answerOf y) ≡ Accepted → Held text t r
+      by (ok b n) q z = matched (x .each b n l q)
+      by (stop n p) q z = absurd (let o : _≡_ {A = ℕ} 0 1 = cc in omega arith)
 
 pub verdict-ruled : (text t : List ℕ) (n : ℕ) (r : Ruling) {v : Verdict} → size ≤ n → ruledAs text t r ≡ ruledIn n text → v ≡ verdictOf r → v ≡ rulesVerdict text
 unfolding rulesVerdict

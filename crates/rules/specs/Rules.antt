@@ -1,7 +1,7 @@
 -- The rules stage of a text: the first refusal by words, sentences and rules, or what the text means; and what the cells say of it.
 use mathlib.Core.List.{List, [], _∷_}
 use mathlib.Core.Bool.{Bool, true, false}
-use Prim.Native.Nat.{ℕ, zero, suc, _+_}
+use Prim.Native.Nat.{ℕ, zero, suc, _+_, _≤_}
 use lib.Dec.{ltb}
 use Rattle.chars.specs.Choice.{if_then_else_}
 use Rattle.lex.specs.Words.{refused, wordsVerdict}
@@ -15,8 +15,10 @@ use Rattle.syntax.specs.Grammar.{fileAt}
 use Rattle.properties.specs.Judged.{Judged, fault, fine}
 use Rattle.table.specs.Cells.{cellOf, filedAt, size, componentIn, firstIn, countIn, placeIn, rowIn}
 use Rattle.table.specs.Definitions.{Child, Definition}
+use Rattle.table.specs.Relation.{Holds}
 use Rattle.places.specs.declared.Ruling.{Ruling}
 use Rattle.places.specs.declared.Ruling.the-variants as ruling
+use Rattle.rules.specs.Limits.{definitionLimit}
 use Rattle.rules.specs.Judge.{Meaning, judge}
 
 -- "1; then words (2, 4); then 3 and 18 for bodies, whichever stands first; then 5 to 17 and 18 for definitions"
@@ -65,3 +67,8 @@ definitionsIn text t r (suc count) = definitionIn text t r ∷ definitionsIn tex
 abbrev pub ruledAs : List ℕ → List ℕ → Ruling → Judged Meaning
 ruledAs text t (ruling.Fault n p) = fault n p
 ruledAs text t (ruling.Map row closed filed) = fine (record { table = definitionsIn text t 0 closed; map = row })
+
+-- where a text is accepted, its cells hold its definitions
+pub data Held (text t : List ℕ) : Ruling → Type 0 where
+  held-not : {n p : ℕ} → Held text t (ruling.Fault n p)
+  held-all : {row closed filed : ℕ} → closed ≤ definitionLimit → filed ≤ 32768 → Holds text t closed filed (definitionsIn text t 0 closed) → Held text t (ruling.Map row closed filed)

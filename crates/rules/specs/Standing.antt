@@ -219,7 +219,7 @@ pub record BodySteps (text t u : List ℕ) (header : Header) (scope : Scope) (w 
 -- what a file is judged as
 pub data FileMatches (text u : List ℕ) : Judged Meaning → Ruling → Type 0 where
   file-fault : {number place : ℕ} → FileMatches text u (fault number place) (ruling.Fault number place)
-  file-map : {m : Meaning} {closed filed : ℕ} → Holds text u closed filed (m .table) → FileMatches text u (fine m) (ruling.Map (m .map) closed filed)
+  file-map : {m : Meaning} {closed filed : ℕ} → Holds text u closed filed (m .table) → closed ≤ definitionLimit → filed ≤ 32768 → FileMatches text u (fine m) (ruling.Map (m .map) closed filed)
 
 pub record Rules (text t u : List ℕ) (r : Ruling) : Type 0 where
   pub long : length u ≡ length t

@@ -25,7 +25,7 @@ ghost use Rattle.parts.specs.Reading.{ok};
 ghost use Rattle.syntax.specs.Grammar.{instanceStatementAt, statementAt, definitionAt, bodyAt};
 ghost use Rattle.names.specs.Names.{fingerprint};
 ghost use Rattle.table.specs.Cells.{openAt, entryOf};
-ghost use Rattle.rules.specs.Rules.{ruledIn, rulesVerdict, ruledAs};
+ghost use Rattle.rules.specs.Rules.{ruledIn, rulesVerdict, ruledAs, Held};
 ghost use Rattle.rules.specs.Standing.{Fits, Steps, InstanceRules, Adds, Lists, Usable, Uses, HeaderFault, NameFault, Closing, BodySteps, Tails, Rules};
 
 const BODY_LIMIT: usize = 8;
@@ -363,7 +363,7 @@ fn judge_file(text: &[u8], cells: &mut [u64]) -> Ruling
 // What the definitions of a text mean, in the cells; or its first refusal by words, sentences and rules. The cells are room to work in:
 // fewer than SIZE are 22, and what they hold after a refusal is left open.
 pub fn define(text: &[u8], cells: &mut [u64]) -> Ruling
-    ensures { λ r. ⌜ ruledAs (now (text .entry)) (now (cells .exit)) r ≡ ruledIn (length (now (cells .entry))) (now (text .entry)) ⌝ }
+    ensures { λ r. ⌜ (ruledAs (now (text .entry)) (now (cells .exit)) r ≡ ruledIn (length (now (cells .entry))) (now (text .entry))) × Held (now (text .entry)) (now (cells .exit)) r ⌝ }
 {
     if cells.len() < table::SIZE {
         return Ruling::Fault(22, 0);

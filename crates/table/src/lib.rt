@@ -71,7 +71,8 @@ pub fn rank_of(kind: Kind) -> u64
     }
 }
 
-fn given_from(flag: u64, number: u64) -> Given
+// A number that may be given, from two cells.
+pub fn given_from(flag: u64, number: u64) -> Given
     ensures { λ r. ⌜ r ≡ givenFrom flag number ⌝ }
 {
     if flag == 0 {
@@ -80,7 +81,7 @@ fn given_from(flag: u64, number: u64) -> Given
     Given::Number(number)
 }
 
-fn flag_of(given: Given) -> u64
+pub fn flag_of(given: Given) -> u64
     ensures { λ r. ⌜ r ≡ flagOf given ⌝ }
 {
     match given {
@@ -89,7 +90,7 @@ fn flag_of(given: Given) -> u64
     }
 }
 
-fn number_of(given: Given) -> u64
+pub fn number_of(given: Given) -> u64
     ensures { λ r. ⌜ r ≡ numberOf given ⌝ }
 {
     match given {

@@ -13,4 +13,4 @@ first-refusal-spec =
     (λ c. search needs)
     (λ c κs. search needs)
     (λ c κs. search needs)
-    (λ c. verdict-ruled _ (c .before .before .define .last .1 .0) _ (c .before .before .define .result) (omega (arith, length-replicate {A = ℕ} 69632 0)) (c .before .before .define .ensures) (c .verdict-of .ensures)))
+    (λ c. verdict-ruled _ (c .before .before .define .last .1 .0) _ (c .before .before .define .result) (omega (arith, length-replicate {A = ℕ} 69632 0)) (c .before .before .define .ensures .0) (c .verdict-of .ensures)))

@@ -1,0 +1,243 @@
+-- The stages of the compiler, one after another.
+use mathlib.Core.Path.{_≡_, refl, sym, ap, subst, _∙_}
+use mathlib.Core.Bool.{Bool, true, false}
+use mathlib.Core.List.{List, [], _∷_}
+use Prim.Native.Nat.{ℕ, suc, _+_, _*_, _<_, _≤_}
+use native.Mathlib.Omega.{arith}
+use lib.Dec.{ltb}
+use lib.ListN.{length, getD}
+use Rattle.chars.specs.Choice.{if_then_else_}
+use Rattle.lex.specs.Words.{wordsVerdict}
+use Rattle.lex.specs.declared.Verdict.{Verdict}
+use Rattle.lex.specs.declared.Verdict.the-variants as verdict
+use Rattle.parts.specs.Reading.{Parsed, ok, stop}
+use Rattle.parts.specs.declared.Name.{Name}
+use Rattle.suffixes.specs.declared.Fault.{Fault}
+use Rattle.suffixes.specs.declared.Fault.the-variants.{Sound, Broken}
+use Rattle.suffixes.specs.Suffixes.{firstOf}
+use Rattle.syntax.specs.Tree.{Body}
+use Rattle.syntax.specs.Grammar.{fileAt}
+use Rattle.properties.specs.Judged.{Judged, fault, fine, onward}
+use Rattle.properties.specs.Assigned.{orElse}
+use Rattle.properties.specs.declared.Given.{Given}
+use Rattle.settings.specs.Codes.{modeCode}
+use Rattle.settings.specs.declared.Mode.the-variants as mode
+use Rattle.components.specs.declared.Component.{Component}
+use Rattle.components.specs.declared.Component.the-variants as component
+use Rattle.table.specs.Cells.{size, componentIn}
+use Rattle.table.specs.Definitions.{Definition, definitionOf}
+use Rattle.table.specs.Relation.{Holds}
+use Rattle.places.specs.declared.Ruling.{Ruling}
+use Rattle.places.specs.declared.Ruling.the-variants as ruling
+use Rattle.rules.specs.Judge.{Meaning, judge, found}
+use Rattle.rules.specs.Rules.{afterWords, afterSentences, ruled, ruledIn, definitionsIn, ruledAs, Held, held-not, held-all}
+use Rattle.rules.proofs.Rulings.{ruled-enough}
+use Rattle.sensible.specs.Sensible.{SensibleMeaning}
+use Rattle.sensible.proofs.Sensible.{judge-sensible}
+use Rattle.rows.specs.Rows.{Entry, Tables, Map, registerTable, pathTable, fieldTable, labelTable, tables, tablesOf}
+use Rattle.faithful.specs.Sound.{fieldsIn}
+use Rattle.layout.specs.Layout.{modeOf}
+use Rattle.shapes.specs.declared.Extent.{Extent}
+use Rattle.shapes.specs.Ready.{known, Ready}
+use Rattle.shapes.specs.Shapes.{ShapesIn, allShapes}
+use Rattle.map.specs.Whole.{tooMany, tooClose, misplaced, overlapping, mapShapes, mapVisits, mapFault, fieldsAmong}
+use Rattle.walk.specs.declared.Surveyed.{Surveyed}
+use Rattle.walk.specs.declared.Surveyed.the-variants as surveyed
+use Rattle.walk.specs.Walks.{elementsOf, registersOf, surveyFault, Surveys, survey-fault, survey-fine}
+use Rattle.overlaps.specs.Charted.{Charted}
+use Rattle.title.specs.Title.{titleOf, titleIn, Titles}
+use Rattle.writing.specs.Entries.{bytesIn}
+use Rattle.writing.specs.Writes.{entriesIn}
+use Rattle.compile.proofs.Counts.{entries-counted, fields-among}
+use Rattle.compile.specs.declared.Compiled.{Compiled}
+use Rattle.compile.specs.Compiled.{mapOf, mapped, compiled, refused, answered, lentAfter}
+use Rattle.compile.specs.Stages.{meaningIn, Filed, FiledIn, Charts, charts-fault, charts-fine}
+
+-- a refusal is answered, and nothing lent changes
+module _ (lent : Tables) {j : Judged Map} {n p : ℕ} (e : j ≡ fault n p) where
+  pub refused-answer : {r : Compiled} → r ≡ refused n p → r ≡ answered lent j
+  unfolding answered
+  refused-answer f = f ∙ ap (answered lent) (sym e)
+
+  pub refused-lent : lent ≡ lentAfter lent j
+  unfolding lentAfter
+  refused-lent = ap (lentAfter lent) (sym e)
+
+-- what a ruled text was
+pub record Parsing (text : List ℕ) (m : Meaning) : Type 0 where
+  pub tree : Body
+  pub end : ℕ
+  pub parsed : fileAt text ≡ ok tree end
+  pub judged : judge text tree ≡ fine m
+
+pub parsing-of : (text : List ℕ) {m : Meaning} → ruled text ≡ fine m → Parsing text m
+unfolding ruled
+parsing-of text {m} e = worded (wordsVerdict text) e
+  where
+    read : (x : Parsed Body) → fileAt text ≡ x → afterSentences text x ≡ fine m → Parsing text m
+    read (ok b n) q j = record { tree = b; end = n; parsed = q; judged = j }
+    read (stop n p) q j = absurd (let z : _≡_ {A = ℕ} 0 1 = cc in omega arith)
+
+    worded : (v : Verdict) → afterWords v (afterSentences text (fileAt text)) ≡ fine m → Parsing text m
+    worded verdict.Accepted j = read (fileAt text) refl j
+    worded (verdict.Refused n p) j = absurd (let z : _≡_ {A = ℕ} 0 1 = cc in omega arith)
+
+-- the rules stage
+module _ (text t : List ℕ) {n : ℕ} (long : size ≤ n) (r : Ruling) (e : ruledAs text t r ≡ ruledIn n text) where
+  was-ruled : ruledAs text t r ≡ ruled text
+  was-ruled = e ∙ sym (ruled-enough text n long)
+
+  pub compiled-fault : {m p : ℕ} → r ≡ ruling.Fault m p → compiled text ≡ fault m p
+  unfolding compiled onward
+  compiled-fault f = ap (λ (j : Judged Meaning). onward j (mapped text)) (sym was-ruled ∙ ap (ruledAs text t) f)
+
+  module _ {row closed filed : ℕ} (f : r ≡ ruling.Map row closed filed) where
+    ruled-map : ruled text ≡ fine (meaningIn text t row closed)
+    ruled-map = sym was-ruled ∙ ap (ruledAs text t) f
+
+    pub compiled-map : compiled text ≡ mapped text (meaningIn text t row closed)
+    unfolding compiled mapped onward
+    compiled-map = ap (λ (j : Judged Meaning). onward j (mapped text)) ruled-map
+
+    pub filed-map : Held text t r → Filed text t row closed filed
+    filed-map h = by (subst (Held text t) f h)
+      where
+        by : Held text t (ruling.Map row closed filed) → Filed text t row closed filed
+        by (held-all few room holds) =
+            let q = parsing-of text ruled-map in
+            record { few = few; room = room; holds = holds; sensible = judge-sensible text (q .tree) (q .judged); tree = q .tree; end = q .end; parsed = q .parsed }
+
+-- the whole map's faults, those of the survey first
+first-regrouped : (a b c d : Fault) → firstOf a (firstOf b (firstOf c d)) ≡ firstOf (firstOf a (firstOf b c)) d
+first-regrouped (Broken n p) b c d = refl
+first-regrouped Sound (Broken n p) c d = refl
+first-regrouped Sound Sound c d = refl
+
+first-sound : {a : Fault} (b : Fault) → a ≡ Sound → firstOf a b ≡ b
+first-sound b e = ap (λ (x : Fault). firstOf x b) e
+
+first-broken : {a : Fault} (b : Fault) {n p : ℕ} → a ≡ Broken n p → firstOf a b ≡ Broken n p
+first-broken b e = ap (λ (x : Fault). firstOf x b) e
+
+-- the map in a row of the cells, in its mode
+abbrev inMode : Extent → ℕ → Extent
+inMode e k = record { rows = e .rows; filed = e .filed; mode = k }
+
+abbrev meaning : List ℕ → List ℕ → Extent → ℕ → Meaning
+meaning text t e row = meaningIn text t row (e .rows)
+
+module _ (text t : List ℕ) (row closed filed : ℕ) (f : Filed text t row closed filed) where
+  pub row-low : row < closed
+  row-low = omega (arith, f .sensible .low, f .holds .count)
+
+  pub row-few : row < 256
+  row-few = omega (arith, row-low, f .few)
+
+  pub filed-in : {c : Component} {mode : ℕ} → c ≡ componentIn t row → mode ≡ modeOf c → FiledIn text t (record { rows = closed; filed = filed; mode = mode }) row
+  filed-in e q = record { filed = f; mode = q ∙ ap modeOf e }
+
+module _ (text t : List ℕ) (e : Extent) (row : ℕ) (g : FiledIn text t e row) where
+  pub map-low : row < e .rows
+  map-low = row-low text t row (e .rows) (e .filed) (g .filed)
+
+  pub is-ready : Ready text t e
+  is-ready = record { few = g .filed .few; room = g .filed .room; holds = g .filed .holds; sensible = g .filed .sensible .table }
+
+  mode-is : modeOf (definitionOf (known text t e) row .component) ≡ e .mode
+  mode-is = sym (g .mode ∙ ap modeOf (g .filed .holds .each row map-low .component))
+
+  fault-of : mapFault (meaning text t e row) ≡ firstOf (surveyFault (known text t e) (allShapes text t e) (elementsOf text t e row)) (overlapping (known text t e) (allShapes text t e) [] (elementsOf text t e row))
+  unfolding mapFault
+  fault-of =
+      let m = meaning text t e row in
+      subst
+      (λ (k : ℕ). mapFault (meaning text t e row)
+      ≡ firstOf (surveyFault (known text t (inMode e k)) (allShapes text t (inMode e k)) (elementsOf text t (inMode e k) row))
+      (overlapping (known text t (inMode e k)) (allShapes text t (inMode e k)) [] (elementsOf text t (inMode e k) row)))
+      mode-is
+      (first-regrouped (tooMany (m .table) 0 0 (mapVisits m)) (tooClose (mapVisits m)) (misplaced (m .table) (mapShapes m) (mapVisits m)) (overlapping (m .table) (mapShapes m) [] (mapVisits m)))
+
+  mapped-broken : {n p : ℕ} → mapFault (meaning text t e row) ≡ Broken n p → mapped text (meaning text t e row) ≡ fault n p
+  unfolding mapped
+  mapped-broken z = ap (λ (x : Fault). found x (fine (mapOf text (meaning text t e row)))) z
+
+  mapped-sound : mapFault (meaning text t e row) ≡ Sound → mapped text (meaning text t e row) ≡ fine (mapOf text (meaning text t e row))
+  unfolding mapped
+  mapped-sound z = ap (λ (x : Fault). found x (fine (mapOf text (meaning text t e row)))) z
+
+  -- the survey
+  module _ {log : List ℕ} {s : Surveyed} (v : Surveys text t log e row s) where
+    pub survey-refuses : {n p : ℕ} → s ≡ surveyed.Fault n p → {shapes : List ℕ} → Charts text t shapes log e row (surveyed.Fault n p)
+    survey-refuses {n} {p} z = charts-fault (mapped-broken (by (subst (Surveys text t log e row) z v)))
+      where
+        by : Surveys text t log e row (surveyed.Fault n p) → mapFault (meaning text t e row) ≡ Broken n p
+        by (survey-fault x) = fault-of ∙ first-broken _ x
+
+    module _ {registers fields : ℕ} (z : s ≡ surveyed.Fine registers fields) where
+      fine-survey : Surveys text t log e row (surveyed.Fine registers fields)
+      fine-survey = subst (Surveys text t log e row) z v
+
+      pub survey-charts : {shapes : List ℕ} → ShapesIn shapes (e .rows) (allShapes text t e) → Charted text t shapes log e row × (registers ≡ length (registersOf text t e row))
+      survey-charts {shapes} h = by fine-survey
+        where
+          by : Surveys text t log e row (surveyed.Fine registers fields) → Charted text t shapes log e row × (registers ≡ length (registersOf text t e row))
+          by (survey-fine x a b c d l) = (record { shaped = record { ready = is-ready; shapes = h }; low = map-low; logs = l; few = omega (arith, a, b); sound = x }, a)
+
+      survey-sound : surveyFault (known text t e) (allShapes text t e) (elementsOf text t e row) ≡ Sound
+      survey-sound = by fine-survey
+        where
+          by : Surveys text t log e row (surveyed.Fine registers fields) → surveyFault (known text t e) (allShapes text t e) (elementsOf text t e row) ≡ Sound
+          by (survey-fine x a b c d l) = x
+
+      -- 21
+      module _ {o : Fault} (y : o ≡ overlapping (known text t e) (allShapes text t e) [] (elementsOf text t e row)) where
+        overlap-last : mapFault (meaning text t e row) ≡ o
+        overlap-last = fault-of ∙ first-sound _ survey-sound ∙ sym y
+
+        pub overlap-refuses : {n p : ℕ} → o ≡ Broken n p → {shapes : List ℕ} → Charts text t shapes log e row (surveyed.Fault n p)
+        overlap-refuses w = charts-fault (mapped-broken (overlap-last ∙ w))
+
+        pub overlap-passes : o ≡ Sound → {shapes : List ℕ} → ShapesIn shapes (e .rows) (allShapes text t e) → Charts text t shapes log e row (surveyed.Fine registers fields)
+        overlap-passes w {shapes} h = by fine-survey
+          where
+            by : Surveys text t log e row (surveyed.Fine registers fields) → Charts text t shapes log e row (surveyed.Fine registers fields)
+            by (survey-fine x a b c d l) = charts-fine (mapped-sound (overlap-last ∙ w)) (survey-charts h .0) a b c d
+
+  -- the rows that are written
+  same-entries : mapOf text (meaning text t e row) .entries ≡ entriesIn text t e row
+  same-entries = subst (λ (k : ℕ). mapOf text (meaning text t e row) .entries ≡ entriesIn text t (inMode e k) row) mode-is refl
+
+  pub map-tables : {name : Name} → Titles text name
+      → tablesOf (mapOf text (meaning text t e row))
+      ≡ tables (registerTable 0 (entriesIn text t e row)) (pathTable (bytesIn text name) (entriesIn text t e row)) (fieldTable (entriesIn text t e row)) (labelTable (entriesIn text t e row))
+  map-tables {name} w =
+      let h : titleIn (fileAt text) ≡ name = ap titleIn (g .filed .parsed) ∙ sym (w .each (g .filed .tree) (g .filed .end) (g .filed .parsed)) in
+      ap (λ (n : Name). tablesOf (record { name = bytesIn text n; entries = mapOf text (meaning text t e row) .entries })) h
+      ∙ ap (λ (es : List Entry). tablesOf (record { name = bytesIn text name; entries = es })) same-entries
+
+  -- what was charted
+  pub record Chart (s log : List ℕ) (registers fields : ℕ) : Type 0 where
+    pub fine-map : mapped text (meaning text t e row) ≡ fine (mapOf text (meaning text t e row))
+    pub charted : Charted text t s log e row
+    pub same : registers ≡ length (registersOf text t e row)
+    pub few : (registers ≤ 1024) × (fields ≤ 4096)
+    pub entries : registers ≡ length (mapOf text (meaning text t e row) .entries)
+    pub counted : fields ≡ fieldsIn (mapOf text (meaning text t e row) .entries)
+
+  pub chart-of : {s log : List ℕ} {registers fields : ℕ} → Charts text t s log e row (surveyed.Fine registers fields) → Chart s log registers fields
+  chart-of (charts-fine x k a b c d) =
+      record {
+        fine-map = x;
+        charted = k;
+        same = a;
+        few = (b, d);
+        entries = a ∙ sym (entries-counted text (known text t e) (registersOf text t e row)) ∙ ap length (sym same-entries);
+        counted = c ∙ fields-among text (known text t e) (g .filed .sensible .table) (elementsOf text t e row) ∙ ap fieldsIn (sym same-entries);
+      }
+
+-- the addressing of an address map
+pub mode-addressed : {c : Component} {a m : Given} {s r : ℕ} → c ≡ component.Addrmap a m → s ≡ modeCode mode.Regalign → r ≡ orElse s m → r ≡ modeOf c
+mode-addressed {m = m} e f g = g ∙ ap (λ (n : ℕ). orElse n m) f ∙ ap modeOf (sym e)
+
+pub chart-refused : {text t s log : List ℕ} {e : Extent} {row n p : ℕ} → Charts text t s log e row (surveyed.Fault n p) → mapped text (meaningIn text t row (e .rows)) ≡ fault n p
+chart-refused (charts-fault z) = z

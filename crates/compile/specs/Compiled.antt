@@ -1,0 +1,74 @@
+-- The compiler on one page: the refusals 1 to 22 in document 01's order, and the rows of an accepted text.
+use mathlib.Core.Bool.{Bool, true, false, _||_}
+use mathlib.Core.List.{List, _++_}
+use Prim.Native.Nat.{ℕ}
+use lib.Dec.{ltb}
+use lib.ListN.{length, drop}
+use Rattle.chars.specs.Choice.{if_then_else_}
+use Rattle.lex.specs.declared.Place.{Place}
+use Rattle.syntax.specs.Grammar.{fileAt}
+use Rattle.properties.specs.Judged.{Judged, fault, fine, onward}
+use Rattle.rules.specs.Judge.{Meaning, found}
+use Rattle.rules.specs.Rules.{ruled}
+use Rattle.faithful.specs.Sound.{fieldsIn}
+use Rattle.rows.specs.Rows.{Map, Tables, tables, tablesOf}
+use Rattle.map.specs.Whole.{mapVisits, mapFault, registersAmong}
+use Rattle.title.specs.Title.{titleIn}
+use Rattle.writing.specs.Entries.{bytesIn, entriesOf}
+use Rattle.compile.specs.declared.Compiled.{Compiled}
+use Rattle.compile.specs.declared.Compiled.the-variants.{Refused, Accepted}
+
+-- the map of a text: its name, and its registers in map order
+abbrev pub mapOf : List ℕ → Meaning → Map
+mapOf text m =
+    record {
+      name = bytesIn text (titleIn (fileAt text));
+      entries = entriesOf text (m .table) (registersAmong (m .table) (mapVisits m));
+    }
+
+-- "then over the whole map 18, 19, 20, 21"
+unfoldable pub mapped : List ℕ → Meaning → Judged Map
+mapped text m = found (mapFault m) (fine (mapOf text m))
+
+-- "1; then words (2, 4); then 3 and 18 for bodies ..; then 5 to 17 and 18 for definitions ..; then over the whole map": the first refusal
+-- of a text, or its map
+unfoldable pub compiled : List ℕ → Judged Map
+compiled text = onward (ruled text) (mapped text)
+
+-- "then 22": "lent table .. shorter than the rows .. it must hold"
+unfoldable pub isShort : Tables → Tables → Bool
+isShort lent rows =
+    (ltb (length (lent .registers)) (length (rows .registers)) || ltb (length (lent .paths)) (length (rows .paths))) ||
+    (ltb (length (lent .fields)) (length (rows .fields)) || ltb (length (lent .labels)) (length (rows .labels)))
+
+abbrev pub refused : ℕ → ℕ → Compiled
+refused n p = Refused n (record { at = p })
+
+-- what is answered: a refusal and its place, or how many register rows and field rows there are
+unfoldable pub answered : Tables → Judged Map → Compiled
+answered lent (fault n p) = refused n p
+answered lent (fine m) = if isShort lent (tablesOf m) then refused 22 0 else Accepted (length (m .entries)) (fieldsIn (m .entries))
+
+-- "the first rows .. are written, the rest stay"
+abbrev pub over : List ℕ → List ℕ → List ℕ
+over rows lent = rows ++ drop (length rows) lent
+
+abbrev pub overAll : Tables → Tables → Tables
+overAll rows lent =
+    tables (over (rows .registers) (lent .registers)) (over (rows .paths) (lent .paths)) (over (rows .fields) (lent .fields)) (over (rows .labels) (lent .labels))
+
+-- the lent tables afterwards: "Refused: .. nothing lent changes"
+unfoldable pub lentAfter : Tables → Judged Map → Tables
+lentAfter lent (fault n p) = lent
+lentAfter lent (fine m) = if isShort lent (tablesOf m) then lent else overAll (tablesOf m) lent
+
+-- an answer in document 01's numbers: the refusal or 0, its place, and the counts of rows, 0 where it is refused
+pub record Numbers : Type 0 where
+  pub refusal : ℕ
+  pub place : ℕ
+  pub registers : ℕ
+  pub fields : ℕ
+
+abbrev pub numbersOf : Compiled → Numbers
+numbersOf (Refused n p) = record { refusal = n; place = p .at; registers = 0; fields = 0 }
+numbersOf (Accepted r f) = record { refusal = 0; place = 0; registers = r; fields = f }

@@ -1,0 +1,107 @@
+-- Accepted rows are lawful.
+use mathlib.Core.Path.{_≡_, refl}
+use mathlib.Core.Bool.{true}
+use mathlib.Core.List.{List, []}
+use Prim.Native.Nat.{ℕ, suc}
+use native.Mathlib.Omega.{arith}
+use lib.ListN.{length}
+use Rattle.chars.proofs.Laws.{either}
+use Rattle.parts.specs.declared.Kind.the-variants as kind
+use Rattle.suffixes.specs.declared.Fault.the-variants.{Sound}
+use Rattle.properties.specs.Judged.{fine}
+use Rattle.components.specs.Components.{kindOf}
+use Rattle.components.specs.declared.Component.{Component}
+use Rattle.components.specs.declared.Component.the-variants as component
+use Rattle.table.specs.Definitions.{Definition, definitionOf}
+use Rattle.rules.specs.Judge.{Meaning}
+use Rattle.rules.specs.Rules.{ruled}
+use Rattle.sensible.specs.Sensible.{SensibleMeaning}
+use Rattle.sensible.proofs.Sensible.{judge-sensible}
+use Rattle.layout.specs.Layout.{modeOf}
+use Rattle.rows.specs.Limits.{nestLimit}
+use Rattle.rows.specs.Rows.{Map, tablesOf}
+use Rattle.rows.specs.Lawful.{lawful}
+use Rattle.rows.specs.Reading.{rowsIn}
+use Rattle.faithful.specs.Sound.{All, all-none, all-more, fieldsIn, SoundMap}
+use Rattle.faithful.proofs.Faithful.{sound-lawful, sound-read}
+use Rattle.named.specs.Named.{NamedMeaning}
+use Rattle.named.proofs.Named.{ruled-stages, ruled-named}
+use Rattle.map.specs.Visits.{Visit, isGroup}
+use Rattle.map.specs.Whole.{mapVisits, mapShapes, mapFault, isRegisterVisit, registersAmong, fieldsAmong}
+use Rattle.overlaps.proofs.Visits.{Sited, few-levels, all-sited}
+use Rattle.writing.specs.Entries.{entriesOf}
+use Rattle.compile.specs.Compiled.{mapOf, compiled}
+use Rattle.compile.proofs.Counts.{entries-counted, fields-among}
+use Rattle.lawful.proofs.Lists.{all-both, all-map, all-of}
+use Rattle.lawful.proofs.Stages.{Accepting, accepting, not-many, not-misplaced}
+use Rattle.lawful.proofs.Steps.{Seen, visits-seen}
+use Rattle.lawful.proofs.Registers.{RegisterSeen, register-holds, entries-sound}
+use Rattle.lawful.proofs.Reaching.{Short, Has, has-some, visits-reach, few-registers, few-fields}
+
+map-group : (c : Component) → kindOf c ≡ kind.Addrmap → isGroup c ≡ true
+map-group (component.Field f) e = absurd (let z : _≡_ {A = ℕ} 0 1 = cc in omega arith)
+map-group (component.Register r) e = absurd (let z : _≡_ {A = ℕ} 0 1 = cc in omega arith)
+map-group (component.Regfile a) e = refl
+map-group (component.Addrmap a m) e = refl
+
+-- the registers among some elements
+registers-all : {P : Visit → Type 0} (table : List Definition) {vs : List Visit} → All P vs → All (λ (v : Visit). P v × (isRegisterVisit table v ≡ true)) (registersAmong table vs)
+unfolding registersAmong
+registers-all table all-none = all-none
+registers-all {P = P} table (all-more {x = v} {xs = vs} p a) =
+    either (λ (l : List Visit). All (λ (v : Visit). P v × (isRegisterVisit table v ≡ true)) l) (isRegisterVisit table v) (λ y. all-more (p, y) (registers-all table a)) (λ _. registers-all table a)
+
+-- a map that keeps the rules
+module _ (text : List ℕ) (m : Meaning) (s : SensibleMeaning m) (n : NamedMeaning text m) (e : mapFault m ≡ Sound) where
+  all-seen : All (Seen text (m .table) 0) (mapVisits m)
+  all-seen = visits-seen text (m .table) (mapShapes m) (modeOf (definitionOf (m .table) (m .map) .component)) (suc nestLimit) (m .map) 0 [] (s .table) (n .each) (s .low) all-none
+
+  all-short : All Short (mapVisits m)
+  all-short = all-of (few-levels (m .table) 0 0 (mapVisits m) (not-many m e))
+
+  all-placed : All (λ (v : Visit). isRegisterVisit (m .table) v ≡ true → Sited (mapShapes m) v) (mapVisits m)
+  all-placed = all-of (all-sited (m .table) (mapShapes m) (mapVisits m) (not-misplaced m e))
+
+  all-registers : All (RegisterSeen text (m .table) (modeOf (definitionOf (m .table) (m .map) .component))) (registersAmong (m .table) (mapVisits m))
+  all-registers =
+      all-map
+      (λ v p.
+      record {
+        seen = p .0 .0;
+        type = register-holds text (m .table) (modeOf (definitionOf (m .table) (m .map) .component)) (v .type) (s .table) (n .each) (p .0 .0 .low) (p .1);
+        shallow = p .0 .1 .0;
+        sited = p .0 .1 .1 (p .1);
+      })
+      (registers-all (m .table) (all-both all-seen (all-both all-short all-placed)))
+
+  one-register : Has (m .table) (mapVisits m)
+  one-register =
+      visits-reach (m .table) (mapShapes m) (modeOf (definitionOf (m .table) (m .map) .component)) (suc nestLimit) (m .map) 0 [] (s .table) (s .low)
+      (map-group (definitionOf (m .table) (m .map) .component) (s .map)) (omega arith) (omega arith) all-short
+
+  meaning-sound : SoundMap (mapOf text m)
+  meaning-sound =
+      let vs : List Visit = registersAmong (m .table) (mapVisits m) in
+      let c : length (entriesOf text (m .table) vs) ≡ length vs = entries-counted text (m .table) vs in
+      let f : fieldsAmong (m .table) (mapVisits m) ≡ fieldsIn (entriesOf text (m .table) vs) = fields-among text (m .table) (s .table) (mapVisits m) in
+      record {
+        name = n .title;
+        entries = entries-sound text (m .table) (modeOf (definitionOf (m .table) (m .map) .component)) all-registers;
+        some = omega (arith, c, has-some (m .table) one-register);
+        few = omega (arith, c, few-registers (m .table) 0 0 (mapVisits m) (omega arith) (not-many m e));
+        fields = omega (arith, f, few-fields (m .table) 0 0 (mapVisits m) (omega arith) (not-many m e));
+      }
+
+map-sound : (text : List ℕ) (m : Meaning) → ruled text ≡ fine m → mapFault m ≡ Sound → SoundMap (mapOf text m)
+map-sound text m r e = meaning-sound text m (judge-sensible text (ruled-stages text m r .tree) (ruled-stages text m r .judged)) (ruled-named text m r) e
+
+pub accepted-sound : (text : List ℕ) (m : Map) → compiled text ≡ fine m → SoundMap m
+accepted-sound text m e =
+    let a : Accepting text m = accepting text m e in
+    rw (a .same) at (map-sound text (a .meaning) (a .rules) (a .sound))
+
+pub accepted-lawful : (text : List ℕ) (m : Map) → compiled text ≡ fine m → lawful (tablesOf m) ≡ true
+accepted-lawful text m e = sound-lawful m (accepted-sound text m e)
+
+pub accepted-read : (text : List ℕ) (m : Map) → compiled text ≡ fine m → rowsIn (tablesOf m) ≡ m
+accepted-read text m e = sound-read m (accepted-sound text m e)

@@ -1,0 +1,7 @@
+pub mod Lists
+pub mod Stages
+pub mod Steps
+pub mod Fields
+pub mod Registers
+pub mod Reaching
+pub mod Lawful

@@ -1,0 +1,63 @@
+-- Laws of tests, and of what holds of all of a list.
+use mathlib.Core.Path.{_≡_, refl}
+use mathlib.Core.Bool.{Bool, true, false, _||_, _&&_, not}
+use mathlib.Core.List.{List, [], _∷_, _++_}
+use Prim.Native.Nat.{ℕ, suc}
+use native.Mathlib.Omega.{arith}
+use Rattle.chars.specs.Choice.{if_then_else_}
+use Rattle.faithful.specs.Sound.{All, all-none, all-more}
+use Rattle.overlaps.proofs.Visits as visits
+
+pub all-append : {A : Type 0} {P : A → Type 0} {xs ys : List A} → All P xs → All P ys → All P (xs ++ ys)
+all-append all-none b = b
+all-append (all-more p a) b = all-more p (all-append a b)
+
+pub all-map : {A : Type 0} {P Q : A → Type 0} {xs : List A} → ((x : A) → P x → Q x) → All P xs → All Q xs
+all-map f all-none = all-none
+all-map f (all-more {x = x} p a) = all-more (f x p) (all-map f a)
+
+pub all-both : {A : Type 0} {P Q : A → Type 0} {xs : List A} → All P xs → All Q xs → All (λ (x : A). P x × Q x) xs
+all-both all-none all-none = all-none
+all-both (all-more p a) (all-more q b) = all-more (p, q) (all-both a b)
+
+pub all-first : {A : Type 0} {P : A → Type 0} {x : A} {xs : List A} → All P (x ∷ xs) → P x
+all-first (all-more p a) = p
+
+pub all-rest : {A : Type 0} {P : A → Type 0} {x : A} {xs : List A} → All P (x ∷ xs) → All P xs
+all-rest (all-more p a) = a
+
+pub all-left : {A : Type 0} {P : A → Type 0} (xs ys : List A) → All P (xs ++ ys) → All P xs
+all-left [] ys h = all-none
+all-left (x ∷ xs) ys h = all-more (all-first h) (all-left xs ys (all-rest h))
+
+-- the same, said by crate overlaps
+pub all-of : {A : Type 0} {P : A → Type 0} {xs : List A} → visits.All P xs → All P xs
+all-of visits.all-none = all-none
+all-of (visits.all-more p a) = all-more p (all-of a)
+
+-- tests
+pub or-left : (a b : Bool) → (a || b) ≡ false → a ≡ false
+or-left true b f = f
+or-left false b f = refl
+
+pub or-right : (a b : Bool) → (a || b) ≡ false → b ≡ false
+or-right true b f = absurd (let z : _≡_ {A = ℕ} 0 1 = cc in omega arith)
+or-right false b f = f
+
+pub not-of : (b : Bool) → b ≡ false → not b ≡ true
+not-of true e = absurd (let z : _≡_ {A = ℕ} 0 1 = cc in omega arith)
+not-of false e = refl
+
+pub both-of : (a b : Bool) → a ≡ true → b ≡ true → (a && b) ≡ true
+both-of true b e f = f
+both-of false b e f = e
+
+-- a number of a fault, or none
+module _ (n x : ℕ) where
+  pub none-test : (b : Bool) → (if b then suc n else x) ≡ 0 → b ≡ false
+  none-test true f = absurd (omega arith)
+  none-test false f = refl
+
+  pub none-on : (b : Bool) → (if b then suc n else x) ≡ 0 → x ≡ 0
+  none-on true f = absurd (omega arith)
+  none-on false f = f

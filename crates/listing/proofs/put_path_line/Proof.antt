@@ -1,0 +1,26 @@
+use borrow.Author.Needs.{needs}
+use Rattle.listing.proofs.Lines.{line-pours}
+use Rattle.listing.proofs.Pouring.{pours-then}
+use Rattle.listing.proofs.put_path_line.Statement.{statement}
+use Rattle.listing.proofs.put_path_line.Tie as tie
+
+pub put-path-line-spec : {M : Type 1} → statement M
+put-path-line-spec =
+    tie.close
+    (tie.spec
+    (λ c. search needs)
+    (λ c κs. search needs)
+    (λ c κs. search needs)
+    (λ c. search needs)
+    (λ c. search needs)
+    (λ c. search needs)
+    (λ c. search needs)
+    (λ c κs. search needs)
+    (λ c κs. search needs)
+    (λ c. search needs)
+    (λ c.
+    let p4 = c .before .before in
+    let p3 = p4 .before .before .before .before in
+    let p2 = p3 .before .before .before .before in
+    let p1 = p2 .before .before .before .before in
+    line-pours _ _ (p1 .put-bytes .ensures) (pours-then (p2 .put-name .ensures) (p3 .put-steps .ensures)) (p4 .put-line-end .ensures)))

@@ -1,0 +1,158 @@
+-- Laws of the access of a register's fields, in the form that the proofs use.
+use mathlib.Core.Bool.{Bool, true, false, _&&_, not}
+use mathlib.Core.Path.{_≡_, refl, sym, ap, _∙_}
+use mathlib.Core.List.{List, [], _∷_}
+use Prim.Native.Nat.{ℕ, suc, _+_, _<_, _≤_}
+use native.Mathlib.Omega.{arith}
+use lib.Dec.{eqb}
+use lib.ListN.{length}
+use borrow.Author.Tests.{not-true, not-false}
+use Rattle.parts.specs.declared.Instance.{Instance}
+use Rattle.settings.specs.Codes.{accessCode}
+use Rattle.settings.specs.declared.Access.the-variants as access
+use Rattle.properties.specs.declared.Given.{Given}
+use Rattle.components.specs.Fields.{fieldAt}
+use Rattle.components.specs.declared.BitPlace.{BitPlace}
+use Rattle.components.specs.declared.FieldType.{FieldType}
+use Rattle.components.specs.declared.FieldAt.{FieldAt}
+use Rattle.components.specs.declared.Register.{Register}
+use Rattle.components.specs.declared.Component.{Component}
+use Rattle.components.specs.declared.Component.the-variants as component
+use Rattle.table.specs.Cells.{cellOf, filedAt, componentIn, firstIn, countIn, rowIn}
+use Rattle.table.specs.Definitions.{Child, Definition, definitionOf}
+use Rattle.table.specs.Relation.{Block}
+use Rattle.closing.specs.Registers.{placement, bitAbove, withPlaced, fieldsFrom, firstBit}
+use Rattle.sensible.specs.Sensible.{ChildrenFit}
+use Rattle.shapes.specs.declared.Extent.{Extent}
+use Rattle.shapes.specs.Ready.{known, Ready}
+use Rattle.shapes.proofs.Rows.{RowFits}
+use Rattle.shapes.proofs.Laws.{ready-is-row, ready-row, ready-block, ready-count, Ahead, ahead-of, none-left}
+use Rattle.map.specs.Whole.{everyAccess, hasAccess, isPair}
+use Rattle.overlaps.specs.Charted.{hasIn}
+
+-- a component's access
+module _ (a : ℕ) (c : Component) where
+  pub access-field : {f : FieldType} → c ≡ component.Field f → eqb (f .sw) a ≡ hasIn a c
+  access-field e = ap (hasIn a) (sym e)
+
+  pub access-register : {r : Register} → c ≡ component.Register r → true ≡ hasIn a c
+  access-register e = ap (hasIn a) (sym e)
+
+  pub access-regfile : {l : Given} → c ≡ component.Regfile l → true ≡ hasIn a c
+  access-regfile e = ap (hasIn a) (sym e)
+
+  pub access-map : {l m : Given} → c ≡ component.Addrmap l m → true ≡ hasIn a c
+  access-map e = ap (hasIn a) (sym e)
+
+-- the fields of some instances, with one more before them
+every-placed : (a : ℕ) (c : Component) (next : BitPlace) (i : Instance) (fs : List FieldAt) → everyAccess a (withPlaced (placement c next i) fs) ≡ (hasIn a c && everyAccess a fs)
+unfolding everyAccess fieldAt
+every-placed a (component.Field f) next i fs = refl
+every-placed a (component.Register r) next i fs = refl
+every-placed a (component.Regfile l) next i fs = refl
+every-placed a (component.Addrmap l m) next i fs = refl
+
+every-more : (a : ℕ) (table : List Definition) (next : BitPlace) (c : Child) (cs : List Child)
+    → everyAccess a (fieldsFrom table next (c ∷ cs))
+    ≡ (hasIn a (definitionOf table (c .type) .component) && everyAccess a (fieldsFrom table (bitAbove (placement (definitionOf table (c .type) .component) next (c .instance)) next) cs))
+unfolding fieldsFrom
+every-more a table next c cs =
+    let d : Component = definitionOf table (c .type) .component in
+    every-placed a d next (c .instance) (fieldsFrom table (bitAbove (placement d next (c .instance)) next) cs)
+
+every-none : (a : ℕ) (table : List Definition) (next : BitPlace) → everyAccess a (fieldsFrom table next []) ≡ true
+unfolding fieldsFrom everyAccess
+every-none a table next = refl
+
+-- the instances of a register that are left to look at
+pub record Left (text t : List ℕ) (e : Extent) (row a to i : ℕ) : Type 0 where
+  pub fits : RowFits (e .mode) (known text t e) row
+  pub rest : List Child
+  pub block : Block text t i rest
+  pub until : i + length rest ≡ to
+  pub children : ChildrenFit (fits .before) (definitionOf (known text t e) row .component) rest
+  pub next : BitPlace
+  pub same : everyAccess a (fieldsFrom (known text t e) next rest) ≡ hasAccess (known text t e) a row
+
+pub record Asking (text t : List ℕ) (row a to i : ℕ) : Type 0 where
+  pub each : (e : Extent) → Ready text t e → row < e .rows → Left text t e row a to i
+
+pub asking-start : (text t : List ℕ) (row a : ℕ) {from to : ℕ} → from ≡ filedAt + firstIn t row → to ≡ from + countIn t row → Asking text t row a to from
+asking-start text t row a p q = record {
+  each = λ e ready low.
+      let f : RowFits (e .mode) (known text t e) row = ready-row text t e row ready low in
+      record {
+        fits = f;
+        rest = definitionOf (known text t e) row .instances;
+        block = rw p (ready-block text t e row ready low);
+        until = omega (arith, q, ready-count text t e row ready low);
+        children = f .fits .children;
+        next = firstBit;
+        same = refl;
+      };
+}
+
+module _ (text t : List ℕ) (row a : ℕ) {to i : ℕ} (s : Asking text t row a to i) where
+  pub asking-end : (e : Extent) → Ready text t e → row < e .rows → to ≤ i → true ≡ hasAccess (known text t e) a row
+  asking-end e ready low h =
+      let l : Left text t e row a to i = s .each e ready low in
+      let z : l .rest ≡ [] = none-left h (l .until) (l .block) in
+      sym (every-none a (known text t e) (l .next)) ∙ ap (λ (cs : List Child). everyAccess a (fieldsFrom (known text t e) (l .next) cs)) (sym z) ∙ l .same
+
+  module _ {x k : ℕ} {c : Component} {r : Bool} (h : i < to) (p : x ≡ cellOf t i) (q : (k ≡ rowIn x) × (k < 256)) (g : c ≡ componentIn t k) (b : r ≡ hasIn a c) where
+    module _ (e : Extent) (ready : Ready text t e) (low : row < e .rows) where
+      left : Left text t e row a to i
+      left = s .each e ready low
+
+      ahead : Ahead text t (left .fits .before) (definitionOf (known text t e) row .component) i (left .rest)
+      ahead = ahead-of h (left .until) (left .block) (left .children)
+
+      same-component : c ≡ definitionOf (known text t e) (ahead .child .type) .component
+      same-component =
+          let l : ahead .child .type < e .rows = omega (arith, ahead .fits .before, left .fits .count, low) in
+          let w : k ≡ ahead .child .type = q .0 ∙ ap rowIn p ∙ ahead .entry .type in
+          g ∙ ap (componentIn t) w ∙ ready-is-row text t e (ahead .child .type) ready l .component
+
+      abbrev above : BitPlace
+      above = bitAbove (placement (definitionOf (known text t e) (ahead .child .type) .component) (left .next) (ahead .child .instance)) (left .next)
+
+      ahead-same : (r && everyAccess a (fieldsFrom (known text t e) above (ahead .others))) ≡ hasAccess (known text t e) a row
+      ahead-same =
+          let rest : Bool = everyAccess a (fieldsFrom (known text t e) above (ahead .others)) in
+          ap (λ (y : Bool). y && rest) (b ∙ ap (hasIn a) same-component) ∙ sym (every-more a (known text t e) (left .next) (ahead .child) (ahead .others))
+          ∙ ap (λ (cs : List Child). everyAccess a (fieldsFrom (known text t e) (left .next) cs)) (sym (ahead .whole)) ∙ left .same
+
+      pub asking-stop : not r ≡ true → false ≡ hasAccess (known text t e) a row
+      asking-stop y =
+          let rest : Bool = everyAccess a (fieldsFrom (known text t e) above (ahead .others)) in
+          ap (λ (z : Bool). z && rest) (sym (not-true r y)) ∙ ahead-same
+
+      left-next : not r ≡ false → Left text t e row a to (i + 1)
+      left-next y =
+          let rest : Bool = everyAccess a (fieldsFrom (known text t e) above (ahead .others)) in
+          record {
+            fits = left .fits;
+            rest = ahead .others;
+            block = ahead .block;
+            until = let m : length (left .rest) ≡ suc (length (ahead .others)) = ap length (ahead .whole) in omega (arith, m, left .until);
+            children = ahead .children;
+            next = above;
+            same = ap (λ (z : Bool). z && rest) (sym (not-false r y)) ∙ ahead-same;
+          }
+
+    pub asking-next : not r ≡ false → Asking text t row a to (i + 1)
+    asking-next y = record { each = λ e ready low. left-next e ready low y }
+
+-- one read-only and one write-only
+module _ (table : List Definition) (reader writer : ℕ) {k : ℕ} {r : Bool} (c : k ≡ accessCode access.R) (e : r ≡ hasAccess table k reader) where
+  is-reader : r ≡ hasAccess table (accessCode access.R) reader
+  is-reader = e ∙ ap (λ (n : ℕ). hasAccess table n reader) c
+
+  pub pair-no : not r ≡ true → false ≡ isPair table reader writer
+  unfolding isPair
+  pair-no y = ap (λ (z : Bool). z && hasAccess table (accessCode access.W) writer) (sym (not-true r y) ∙ is-reader)
+
+  pub pair-yes : {m : ℕ} {s : Bool} → not r ≡ false → m ≡ accessCode access.W → s ≡ hasAccess table m writer → s ≡ isPair table reader writer
+  unfolding isPair
+  pair-yes y d f =
+      f ∙ ap (λ (n : ℕ). hasAccess table n writer) d ∙ ap (λ (z : Bool). z && hasAccess table (accessCode access.W) writer) (sym (not-false r y) ∙ is-reader)

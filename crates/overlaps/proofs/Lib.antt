@@ -1,0 +1,4 @@
+pub mod Visits
+pub mod Access
+pub mod Overlaps
+pub mod Plots

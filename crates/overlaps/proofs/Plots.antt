@@ -1,0 +1,252 @@
+-- Laws of the log's registers, in the form that the proofs use.
+use mathlib.Core.Bool.{Bool, true, false, _||_, _&&_, not}
+use mathlib.Core.Path.{_≡_, refl, sym, ap, _∙_}
+use mathlib.Core.List.{List, [], _∷_}
+use Prim.Native.Nat.{ℕ, suc, _+_, _-_, _*_, _<_, _≤_}
+use native.Mathlib.Numerals.{add-one}
+use native.Mathlib.Omega.{arith}
+use lib.Dec.{ltb}
+use lib.ListN.{length, take, drop}
+use lib.Seq.{slice-cons, slice-empty}
+use borrow.Author.Tests.{lt-ltb, le-ltb}
+use Rattle.suffixes.specs.declared.Fault.the-variants.{Sound, Broken}
+use Rattle.table.specs.Cells.{cellOf}
+use Rattle.table.specs.Definitions.{Definition}
+use Rattle.layout.specs.Layout.{shapeAt}
+use Rattle.layout.specs.declared.Shape.{Shape}
+use Rattle.shapes.specs.declared.Extent.{Extent}
+use Rattle.shapes.specs.Ready.{known}
+use Rattle.shapes.specs.Shapes.{shapeIn, allShapes}
+use Rattle.map.specs.Visits.{Visit}
+use Rattle.map.specs.Whole.{isRegisterVisit, isPair, isSharedLawfully, overlapRegisters, overlapsOne, overlapping}
+use Rattle.walk.specs.Runs.{stepCells}
+use Rattle.walk.specs.Walks.{LogRow, visitAt, noVisit, elementsOf, registersOf}
+use Rattle.overlaps.specs.declared.Plot.{Plot}
+use Rattle.overlaps.specs.Charted.{Charted, plotIn, plotsOverlap, PlotFits}
+use Rattle.overlaps.proofs.Visits.{all-at, padded-cell, seen-length, seen-place, register-size, register-whole, RegisterSeen, registers-seen}
+use Rattle.overlaps.proofs.Overlaps.{one-register, one-none, registers-decide, from-end, from-hit, from-on}
+
+-- a register of the log, from its cells
+same-plot : {a b c x y z : ℕ} → a ≡ x → b ≡ y → c ≡ z → _≡_ {A = Plot} (record { row = a; address = b; size = c }) (record { row = x; address = y; size = z })
+same-plot p q r = rw (p, q, r)
+
+pub plot-read : (s log : List ℕ) (i : ℕ) {address row : ℕ} {shape : Shape} → address ≡ cellOf log (i * 27) → row ≡ cellOf log (i * 27 + 1) → shape ≡ shapeIn s row
+    → record { row = row; address = address; size = shape .size } ≡ plotIn s log i
+unfolding plotIn
+plot-read s log i p q g = same-plot q p (ap (λ (z : Shape). z .size) g ∙ ap (λ (n : ℕ). shapeIn s n .size) q)
+
+pub place-read : (log : List ℕ) (i : ℕ) {depth x : ℕ} → depth ≡ cellOf log (i * 27 + 2) → x ≡ cellOf log (i * 27 + 3 * depth) → x ≡ cellOf log (i * 27 + 3 * cellOf log (i * 27 + 2))
+place-read log i p q = q ∙ ap (λ (n : ℕ). cellOf log (i * 27 + 3 * n)) p
+
+-- two registers: one behind the other, or lawfully shared, or not
+module _ (table : List Definition) (v u : Plot) where
+  abbrev lawless : Bool
+  lawless = not (isSharedLawfully table (v .row) (u .row))
+
+  pub apart-behind : u .address + u .size ≤ v .address → false ≡ plotsOverlap table v u
+  unfolding plotsOverlap
+  apart-behind h = ap (λ (b : Bool). (b && ltb (u .address) (v .address + v .size)) && lawless) (sym (le-ltb (v .address) (u .address + u .size) h))
+
+  module _ (a : v .address < u .address + u .size) where
+    first-below : {x : Bool} → x ≡ (ltb (u .address) (v .address + v .size) && lawless) → x ≡ plotsOverlap table v u
+    unfolding plotsOverlap
+    first-below e = e ∙ ap (λ (b : Bool). (b && ltb (u .address) (v .address + v .size)) && lawless) (sym (lt-ltb (v .address) (u .address + u .size) a))
+
+    pub apart-before : v .address + v .size ≤ u .address → false ≡ plotsOverlap table v u
+    apart-before h = first-below (ap (λ (b : Bool). b && lawless) (sym (le-ltb (u .address) (v .address + v .size) h)))
+
+    module _ {r : Bool} (b : u .address < v .address + v .size) (e : r ≡ isPair table (v .row) (u .row)) where
+      meeting : {x : Bool} → x ≡ lawless → x ≡ plotsOverlap table v u
+      meeting f = first-below (f ∙ ap (λ (b : Bool). b && lawless) (sym (lt-ltb (u .address) (v .address + v .size) b)))
+
+      pub shared-first : r ≡ true → false ≡ plotsOverlap table v u
+      unfolding isSharedLawfully
+      shared-first y = meeting (ap (λ (b : Bool). not (b || isPair table (u .row) (v .row))) (sym y ∙ e))
+
+      pub shared-second : {s : Bool} → r ≡ false → s ≡ isPair table (u .row) (v .row) → not s ≡ plotsOverlap table v u
+      unfolding isSharedLawfully
+      shared-second y f = meeting (ap not f ∙ ap (λ (b : Bool). not (b || isPair table (u .row) (v .row))) (sym y ∙ e))
+
+-- a register of the log is one of the map's
+pub record PlotOf (shapes : List Shape) (v : Visit) (p : Plot) : Type 0 where
+  pub row : p .row ≡ v .type
+  pub address : p .address ≡ v .address
+  pub size : p .size ≡ shapeAt shapes (v .type) .size
+
+same-overlap : (table : List Definition) {a m x b n y a′ m′ x′ b′ n′ y′ : ℕ} → a ≡ a′ → m ≡ m′ → x ≡ x′ → b ≡ b′ → n ≡ n′ → y ≡ y′
+    → ((ltb a (b + n) && ltb b (a + m)) && not (isSharedLawfully table x y)) ≡ ((ltb a′ (b′ + n′) && ltb b′ (a′ + m′)) && not (isSharedLawfully table x′ y′))
+same-overlap table p q r s t u = rw (p, q, r, s, t, u)
+
+plots-overlap : (table : List Definition) (shapes : List Shape) {v u : Visit} {p q : Plot} → PlotOf shapes v p → PlotOf shapes u q → plotsOverlap table p q ≡ overlapRegisters table shapes v u
+unfolding plotsOverlap overlapRegisters
+plots-overlap table shapes a b = same-overlap table (a .address) (a .size) (a .row) (b .address) (b .size) (b .row)
+
+module _ (text t s log : List ℕ) (e : Extent) (row : ℕ) (c : Charted text t s log e row) (i : ℕ) (h : i < length (registersOf text t e row)) where
+  abbrev visit : Visit
+  visit = visitAt (registersOf text t e row) i
+
+  seen-at : RegisterSeen text t e (visitAt (registersOf text t e row) i)
+  seen-at = all-at noVisit i (registers-seen text t e row (c .shaped .ready) (c .low) (c .sound)) h
+
+  log-at : LogRow log i (visitAt (registersOf text t e row) i)
+  log-at = c .logs .each i h
+
+  type-low : visitAt (registersOf text t e row) i .type < e .rows
+  type-low = seen-at .seen .low
+
+  pub index-few : i ≤ 1024
+  index-few = omega (arith, h, c .few)
+
+  pub row-few : cellOf log (i * 27 + 1) < 256
+  row-few = omega (arith, log-at .type, type-low, c .shaped .ready .few)
+
+  pub depth-few : cellOf log (i * 27 + 2) ≤ 8
+  depth-few = omega (arith, log-at .depth, seen-at .shallow)
+
+  plot-of : PlotOf (allShapes text t e) (visitAt (registersOf text t e row) i) (plotIn s log i)
+  unfolding plotIn
+  plot-of =
+      let shape : Shape = shapeAt (allShapes text t e) (visit .type) in
+      record {
+        row = log-at .type;
+        address = log-at .address ∙ seen-at .exact;
+        size =
+            ap (λ (n : ℕ). shapeIn s n .size) (log-at .type) ∙ ap (λ (z : Shape). z .size) (c .shaped .shapes .each (visit .type) type-low)
+            ∙ ap (λ (z : Shape). z .size) (register-whole text t e (visit .type) (seen-at .type));
+      }
+
+  plot-is : {p : Plot} → p ≡ plotIn s log i → PlotOf (allShapes text t e) (visitAt (registersOf text t e row) i) p
+  plot-is f = rw f plot-of
+
+  pub plot-fits : {p : Plot} → p ≡ plotIn s log i → PlotFits e p
+  plot-fits f =
+      let o = plot-is f in
+      let w = seen-at .sited .within in
+      let z = register-size text t e (visit .type) (seen-at .type) in
+      record { row = rw (o .row) type-low; address = omega (arith, o .address, w); size = omega (arith, o .size, z) }
+
+  -- its name's place is that of its path's last step
+  pub named-at : cellOf log (i * 27 + 3 * cellOf log (i * 27 + 2)) ≡ visitAt (registersOf text t e row) i .name .start
+  named-at =
+      let n : ℕ = length (visit .path) in
+      let l = seen-length text t e 0 visit (seen-at .seen) in
+      let z : i * 27 + 3 * n ≡ i * 27 + 3 + 3 * (n - 1) = omega (arith, l) in
+      let k : 3 * (n - 1) < 24 = omega (arith, l, seen-at .shallow) in
+      ap (λ (m : ℕ). cellOf log (i * 27 + 3 * m)) (log-at .depth) ∙ ap (cellOf log) z ∙ log-at .steps (3 * (n - 1)) k
+      ∙ padded-cell 24 (stepCells (visit .path)) (3 * (n - 1)) k ∙ seen-place text t e 0 visit (seen-at .seen)
+
+-- a register against those before it, from the j-th on
+pub record Comparing (text t s log : List ℕ) (e : Extent) (row i : ℕ) (plot : Plot) (j : ℕ) : Type 0 where
+  pub charted : Charted text t s log e row
+  pub low : i < length (registersOf text t e row)
+  pub plotted : plot ≡ plotIn s log i
+  pub within : j ≤ i
+  pub same : overlapsOne (known text t e) (allShapes text t e) (visitAt (registersOf text t e row) i) (drop j (take i (registersOf text t e row)))
+      ≡ overlapsOne (known text t e) (allShapes text t e) (visitAt (registersOf text t e row) i) (take i (registersOf text t e row))
+
+module _ (text t s log : List ℕ) (e : Extent) (row i : ℕ) where
+  pub comparing-start : {plot : Plot} → Charted text t s log e row → i < length (registersOf text t e row) → plot ≡ plotIn s log i → Comparing text t s log e row i plot 0
+  comparing-start c h f = record { charted = c; low = h; plotted = f; within = omega arith; same = refl }
+
+  module _ {plot : Plot} {j : ℕ} (c : Comparing text t s log e row i plot j) where
+    abbrev table : List Definition
+    table = known text t e
+
+    abbrev shapes : List Shape
+    shapes = allShapes text t e
+
+    abbrev vs : List Visit
+    vs = registersOf text t e row
+
+    pub comparing-own : PlotFits e plot
+    comparing-own = plot-fits text t s log e row (c .charted) i (c .low) (c .plotted)
+
+    pub comparing-end : i ≤ j → false ≡ overlapsOne (known text t e) (allShapes text t e) (visitAt (registersOf text t e row) i) (take i (registersOf text t e row))
+    comparing-end h =
+        let z : j ≡ i = omega (arith, h, c .within) in
+        let w : drop j (take i vs) ≡ [] = ap (λ (n : ℕ). drop n (take i vs)) z ∙ slice-empty i vs in
+        sym (one-none table shapes (visitAt vs i)) ∙ ap (overlapsOne table shapes (visitAt vs i)) (sym w) ∙ c .same
+
+    module _ (h : j < i) where
+      earlier-low : j < length (registersOf text t e row)
+      earlier-low = omega (arith, h, c .low)
+
+      pub earlier-few : j ≤ 1024
+      earlier-few = index-few text t s log e row (c .charted) j earlier-low
+
+      pub earlier-row : cellOf log (j * 27 + 1) < 256
+      earlier-row = row-few text t s log e row (c .charted) j earlier-low
+
+      module _ {other : Plot} (o : other ≡ plotIn s log j) where
+        pub earlier-fits : PlotFits e other
+        earlier-fits = plot-fits text t s log e row (c .charted) j earlier-low o
+
+        module _ {r : Bool} (f : r ≡ plotsOverlap (known text t e) plot other) where
+          here : overlapsOne (known text t e) (allShapes text t e) (visitAt (registersOf text t e row) i) (take i (registersOf text t e row))
+              ≡ (r || overlapsOne (known text t e) (allShapes text t e) (visitAt (registersOf text t e row) i) (drop (suc j) (take i (registersOf text t e row))))
+          here =
+              let v : Visit = visitAt vs i in
+              let u : Visit = visitAt vs j in
+              let rest : List Visit = drop (suc j) (take i vs) in
+              let z : drop j (take i vs) ≡ u ∷ rest = slice-cons j i vs noVisit h (omega (arith, c .low)) in
+              let g : r ≡ overlapRegisters table shapes v u =
+              f ∙ plots-overlap table shapes (plot-is text t s log e row (c .charted) i (c .low) (c .plotted)) (plot-is text t s log e row (c .charted) j earlier-low o) in
+              sym (c .same) ∙ ap (overlapsOne table shapes v) z ∙ one-register table shapes v u rest (seen-at text t s log e row (c .charted) j earlier-low .register)
+              ∙ ap (λ (b : Bool). b || overlapsOne table shapes v rest) (sym g)
+
+          pub comparing-hit : r ≡ true → true ≡ overlapsOne (known text t e) (allShapes text t e) (visitAt (registersOf text t e row) i) (take i (registersOf text t e row))
+          comparing-hit y = sym (here ∙ ap (λ (b : Bool). b || overlapsOne table shapes (visitAt vs i) (drop (suc j) (take i vs))) y)
+
+          pub comparing-next : r ≡ false → Comparing text t s log e row i plot (j + 1)
+          comparing-next y =
+              let v : Visit = visitAt vs i in
+              record {
+                charted = c .charted;
+                low = c .low;
+                plotted = c .plotted;
+                within = omega (arith, h);
+                same = ap (λ (n : ℕ). overlapsOne table shapes v (drop n (take i vs))) (add-one j) ∙ sym (here ∙ ap (λ (b : Bool). b || overlapsOne table shapes v (drop (suc j) (take i vs))) y);
+              }
+
+-- all registers, from the i-th on
+pub record Searching (text t s log : List ℕ) (e : Extent) (row count i : ℕ) : Type 0 where
+  pub charted : Charted text t s log e row
+  pub all : count ≡ length (registersOf text t e row)
+  pub same : overlapping (known text t e) (allShapes text t e) (take i (registersOf text t e row)) (drop i (registersOf text t e row))
+      ≡ overlapping (known text t e) (allShapes text t e) [] (elementsOf text t e row)
+
+module _ (text t s log : List ℕ) (e : Extent) (row count : ℕ) where
+  pub searching-start : Charted text t s log e row → count ≡ length (registersOf text t e row) → Searching text t s log e row count 0
+  searching-start c f = record { charted = c; all = f; same = sym (registers-decide (known text t e) (allShapes text t e) (elementsOf text t e row)) }
+
+  module _ {i : ℕ} (c : Searching text t s log e row count i) where
+    pub searching-end : count ≤ i → Sound ≡ overlapping (known text t e) (allShapes text t e) [] (elementsOf text t e row)
+    searching-end h = sym (from-end (known text t e) (allShapes text t e) (registersOf text t e row) i (omega (arith, h, c .all))) ∙ c .same
+
+    module _ (h : i < count) where
+      pub searching-low : i < length (registersOf text t e row)
+      searching-low = omega (arith, h, c .all)
+
+      pub searching-few : i ≤ 1024
+      searching-few = index-few text t s log e row (c .charted) i searching-low
+
+      pub searching-depth : cellOf log (i * 27 + 2) ≤ 8
+      searching-depth = depth-few text t s log e row (c .charted) i searching-low
+
+      is-register : isRegisterVisit (known text t e) (visitAt (registersOf text t e row) i) ≡ true
+      is-register = seen-at text t s log e row (c .charted) i searching-low .register
+
+      module _ {r : Bool} (f : r ≡ overlapsOne (known text t e) (allShapes text t e) (visitAt (registersOf text t e row) i) (take i (registersOf text t e row))) where
+        pub searching-hit : {place : ℕ} → r ≡ true → place ≡ cellOf log (i * 27 + 3 * cellOf log (i * 27 + 2))
+            → Broken 21 place ≡ overlapping (known text t e) (allShapes text t e) [] (elementsOf text t e row)
+        searching-hit y p =
+            ap (Broken 21) (p ∙ named-at text t s log e row (c .charted) i searching-low)
+            ∙ sym (from-hit (known text t e) (allShapes text t e) (registersOf text t e row) i searching-low is-register (sym f ∙ y)) ∙ c .same
+
+        pub searching-next : r ≡ false → Searching text t s log e row count (i + 1)
+        searching-next y =
+            record {
+              charted = c .charted;
+              all = c .all;
+              same = sym (from-on (known text t e) (allShapes text t e) (registersOf text t e row) i searching-low is-register (sym f ∙ y)) ∙ c .same;
+            }

@@ -1,0 +1,406 @@
+-- Laws of a map's elements: each is of a row and ends its own path; where 18, 19 and 20 are kept, paths are short, and registers lie
+-- where an address can be.
+use mathlib.Core.Bool.{Bool, true, false, _||_, _&&_, not}
+use mathlib.Core.Path.{_≡_, refl, ap, _∙_}
+use mathlib.Core.List.{List, [], _∷_, _++_}
+use Prim.Native.Nat.{ℕ, zero, suc, _+_, _-_, _*_, _/_, _%_, _<_, _≤_}
+use native.Mathlib.Omega.{arith}
+use lib.Dec.{eqb, ltb}
+use lib.ListN.{length, getD}
+use borrow.Author.Tests.{eqb-true, ltb-false, not-false}
+use Rattle.chars.specs.Choice.{if_then_else_}
+use Rattle.chars.proofs.Laws.{either}
+use Rattle.parts.specs.declared.Name.{Name}
+use Rattle.parts.specs.declared.Array.{Array}
+use Rattle.parts.specs.declared.Array.the-variants as array
+use Rattle.settings.specs.Settings.{isWidth}
+use Rattle.suffixes.specs.Suffixes.{firstOf}
+use Rattle.suffixes.specs.declared.Fault.{Fault}
+use Rattle.suffixes.specs.declared.Fault.the-variants.{Sound, Broken}
+use Rattle.properties.specs.declared.Given.{Given}
+use Rattle.properties.specs.declared.Given.the-variants.{Nothing}
+use Rattle.components.specs.Components.{kindOf}
+use Rattle.components.specs.declared.Register.{Register}
+use Rattle.components.specs.declared.Component.{Component}
+use Rattle.components.specs.declared.Component.the-variants as component
+use Rattle.components.proofs.Laws.{first-sound}
+use Rattle.table.specs.Cells.{cellOf, componentIn}
+use Rattle.table.specs.Definitions.{Child, Definition, definitionOf}
+use Rattle.table.specs.Relation.{IsEntry, Block, block-end, block-on}
+use Rattle.rules.proofs.Instances.{length-more}
+use Rattle.rules.proofs.Closing.{getD-last}
+use Rattle.sensible.specs.Sensible.{Fits, register-fits}
+use Rattle.offsets.specs.Offsets.{cut}
+use Rattle.offsets.proofs.Laws.{cut-low}
+use Rattle.layout.specs.Layout.{elements, bottom, shapeAt, laidFrom, alignmentOf, shapeOf, shapesFrom, cutShape}
+use Rattle.layout.specs.declared.Shape.{Shape}
+use Rattle.layout.specs.declared.Laid.{Laid}
+use Rattle.layout.proofs.Laws.{sound-elements}
+use Rattle.shapes.specs.declared.Extent.{Extent}
+use Rattle.shapes.specs.Ready.{known, Ready}
+use Rattle.shapes.specs.Shapes.{GroupOf, of-regfile, of-map, allShapes}
+use Rattle.shapes.proofs.Rows.{RowFits, width-range}
+use Rattle.shapes.proofs.Laws.{ready-is-row, ready-row, ready-block}
+use Rattle.shapes.proofs.Children.{ReadyChild, ReadyChildren, ready-none, ready-more, ready-children}
+use Rattle.rows.specs.Limits.{nestLimit, registerLimit, fieldLimit, addressLimit}
+use Rattle.rows.specs.Rows.{padded, indexCode}
+use Rattle.map.specs.Visits.{PathStep, Visit, indexIn, isGroup, elementVisits, childVisits, ofGroup, visitsIn}
+use Rattle.map.specs.Whole.{isRegister, isRegisterVisit, tooMany, tooClose, misplaced, registersAmong}
+use Rattle.walk.specs.Runs.{stepCells}
+use Rattle.walk.specs.Walks.{elementsOf, registersOf, surveyFault}
+
+-- each of a list
+pub data All {A : Type 0} (P : A → Type 0) : List A → Type 0 where
+  all-none : All P []
+  all-more : {x : A} {xs : List A} → P x → All P xs → All P (x ∷ xs)
+
+pub all-append : {A : Type 0} {P : A → Type 0} {xs ys : List A} → All P xs → All P ys → All P (xs ++ ys)
+all-append all-none b = b
+all-append (all-more p a) b = all-more p (all-append a b)
+
+pub all-map : {A : Type 0} {P Q : A → Type 0} {xs : List A} → ((x : A) → P x → Q x) → All P xs → All Q xs
+all-map f all-none = all-none
+all-map f (all-more {x = x} p a) = all-more (f x p) (all-map f a)
+
+pub all-both : {A : Type 0} {P Q : A → Type 0} {xs : List A} → All P xs → All Q xs → All (λ (x : A). P x × Q x) xs
+all-both all-none all-none = all-none
+all-both (all-more p a) (all-more q b) = all-more (p, q) (all-both a b)
+
+pub all-at : {A : Type 0} {P : A → Type 0} {xs : List A} (d : A) (i : ℕ) → All P xs → i < length xs → P (getD xs i d)
+all-at d i all-none h = absurd (omega arith)
+all-at d zero (all-more p a) h = p
+all-at d (suc i) (all-more p a) h = all-at d i a (omega (arith, h))
+
+-- an instance in the body of a row, and the cell that holds it
+pub record Held (text t : List ℕ) (e : Extent) (c : Child) : Type 0 where
+  pub row : ℕ
+  pub alignment : Given
+  pub low : row < e .rows
+  pub fits : ReadyChild text t e row alignment c
+  pub cell : ℕ
+  pub entry : IsEntry text (cellOf t cell) c
+
+held-by : (text t : List ℕ) (e : Extent) (row : ℕ) (a : Given) {i : ℕ} {cs : List Child} → row < e .rows → Block text t i cs → ReadyChildren text t e row a cs → All (Held text t e) cs
+held-by text t e row a low block-end ready-none = all-none
+held-by text t e row a low (block-on {i = i} x b) (ready-more r rs) =
+    all-more (record { row = row; alignment = a; low = low; fits = r; cell = i; entry = x }) (held-by text t e row a low b rs)
+
+pub held-all : (text t : List ℕ) (e : Extent) (row : ℕ) (a : Given) → Ready text t e → row < e .rows → GroupOf (definitionOf (known text t e) row .component) a
+    → All (Held text t e) (definitionOf (known text t e) row .instances)
+held-all text t e row a ready low g =
+    let k : componentIn t row ≡ definitionOf (known text t e) row .component = ready-is-row text t e row ready low .component in
+    held-by text t e row a low (ready-block text t e row ready low) (ready-children text t e row a ready low (rw k g))
+
+-- the step of an instance's element
+abbrev pub stepFor : Child → ℕ → PathStep
+stepFor c k = record { name = c .instance .name; index = indexIn (c .instance .array) k }
+
+pub record StepOf (text t : List ℕ) (e : Extent) (s : PathStep) : Type 0 where
+  pub child : Child
+  pub held : Held text t e child
+  pub element : ℕ
+  pub low : element < elements (child .instance .array)
+  pub same : s ≡ stepFor child element
+
+-- an element: of a row, and its path, longer than `depth`, ends with its own step
+pub record Seen (text t : List ℕ) (e : Extent) (depth : ℕ) (v : Visit) : Type 0 where
+  pub low : v .type < e .rows
+  pub before : List PathStep
+  pub last : PathStep
+  pub whole : v .path ≡ before ++ (last ∷ [])
+  pub named : last .name ≡ v .name
+  pub steps : All (StepOf text t e) (v .path)
+  pub deeper : depth < length (v .path)
+
+seen-above : {text t : List ℕ} {e : Extent} {d k : ℕ} (v : Visit) → d ≤ k → Seen text t e k v → Seen text t e d v
+seen-above v h s =
+    record { low = s .low; before = s .before; last = s .last; whole = s .whole; named = s .named; steps = s .steps; deeper = omega (arith, h, s .deeper) }
+
+module _ (text t : List ℕ) (e : Extent) where
+  elements-seen : (content : ℕ → List PathStep → List Visit) (path : List PathStep) (c : Child) (base : ℕ) (s : Shape) (l : Laid) (k n : ℕ)
+      → Held text t e c → All (StepOf text t e) path → k + n ≤ elements (c .instance .array)
+      → ((address : ℕ) (here : List PathStep) → All (StepOf text t e) here → All (Seen text t e (length here)) (content address here))
+      → All (Seen text t e (length path)) (elementVisits content path c base s l k n)
+  unfolding elementVisits
+  elements-seen content path c base s l k zero h a f inner = all-none
+  elements-seen content path c base s l k (suc n) h a f inner =
+      let step : PathStep = stepFor c k in
+      let here : List PathStep = path ++ (step ∷ []) in
+      let long : length here ≡ suc (length path) = length-more path step in
+      let one : StepOf text t e step = record { child = c; held = h; element = k; low = omega (arith, f); same = refl } in
+      let b : All (StepOf text t e) here = all-append a (all-more one all-none) in
+      let g : c .type < e .rows = omega (arith, h .fits .below, h .low) in
+      all-more (record { low = g; before = path; last = step; whole = refl; named = refl; steps = b; deeper = omega (arith, long) })
+      (all-append (all-map (λ v s. seen-above v (omega (arith, long)) s) (inner (base + (l .start .0 + l .stride * k)) here b))
+      (elements-seen content path c base s l (suc k) n h a (omega (arith, f)) inner))
+
+  children-seen : (content : ℕ → ℕ → List PathStep → List Visit) (shapes : List Shape) (path : List PathStep) (base : ℕ) {cs : List Child} (ls : List Laid)
+      → All (Held text t e) cs → All (StepOf text t e) path
+      → ((d address : ℕ) (here : List PathStep) → d < e .rows → All (StepOf text t e) here → All (Seen text t e (length here)) (content d address here))
+      → All (Seen text t e (length path)) (childVisits content shapes path base cs ls)
+  unfolding childVisits
+  children-seen content shapes path base ls all-none a inner = all-none
+  children-seen content shapes path base [] (all-more h hs) a inner = all-none
+  children-seen content shapes path base (l ∷ ls) (all-more {x = c} h hs) a inner =
+      let g : c .type < e .rows = omega (arith, h .fits .below, h .low) in
+      all-append
+      (elements-seen (content (c .type)) path c base (shapeAt shapes (c .type)) l 0 (elements (c .instance .array)) h a (omega arith) (λ address here b. inner (c .type) address here g b))
+      (children-seen content shapes path base ls hs a inner)
+
+group-all : {P : Visit → Type 0} (c : Component) {vs : List Visit} → ((a : Given) → GroupOf c a → All P vs) → All P (ofGroup (isGroup c) vs)
+group-all (component.Field f) g = all-none
+group-all (component.Register r) g = all-none
+group-all (component.Regfile a) g = g a of-regfile
+group-all (component.Addrmap a m) g = g a of-map
+
+pub visits-seen : (text t : List ℕ) (e : Extent) (levels row base : ℕ) (path : List PathStep) → Ready text t e → row < e .rows → All (StepOf text t e) path
+    → All (Seen text t e (length path)) (visitsIn levels (e .mode) (known text t e) (allShapes text t e) row base path)
+unfolding visitsIn
+visits-seen text t e zero row base path ready low a = all-none
+visits-seen text t e (suc levels) row base path ready low a =
+    let d : Definition = definitionOf (known text t e) row in
+    group-all (d .component)
+    (λ al g. children-seen text t e (visitsIn levels (e .mode) (known text t e) (allShapes text t e)) (allShapes text t e) path base
+    (laidFrom (e .mode) (alignmentOf (d .component)) (allShapes text t e) bottom (d .instances)) (held-all text t e row al ready low g) a
+    (λ d address here l b. visits-seen text t e levels d address here ready l b))
+
+-- the elements of a map
+pub elements-of-seen : (text t : List ℕ) (e : Extent) (row : ℕ) → Ready text t e → row < e .rows → All (Seen text t e 0) (elementsOf text t e row)
+elements-of-seen text t e row ready low = visits-seen text t e (suc nestLimit) row 0 [] ready low all-none
+
+-- an index of a path in a cell
+index-low : (a : Array) (k : ℕ) → k < elements a → indexCode (indexIn a k) ≤ elements a
+index-low array.Missing k h = omega arith
+index-low (array.Size mark n) k h = omega (arith, h)
+index-low (array.Range mark left right) k h = omega arith
+
+pub step-index : (text t : List ℕ) (e : Extent) (s : PathStep) → StepOf text t e s → indexCode (s .index) ≤ 1024
+step-index text t e s o =
+    let c : Child = o .child in
+    let l : elements (c .instance .array) ≤ 1024 =
+    sound-elements (kindOf (definitionOf (known text t e) (c .type) .component)) (c .instance) (o .held .fits .addressed) (o .held .fits .sound) .1 in
+    let z : indexCode (s .index) ≡ indexCode (indexIn (c .instance .array) (o .element)) = ap (λ (p : PathStep). indexCode (p .index)) (o .same) in
+    omega (arith, z, l, index-low (c .instance .array) (o .element) (o .low))
+
+-- a step in the cells of a path
+abbrev pub noStep : PathStep
+noStep = record { name = record { start = 0; end = 0 }; index = Nothing }
+
+abbrev pub stepAt : List PathStep → ℕ → PathStep
+stepAt path j = getD path j noStep
+
+later-cell : (a b c : ℕ) (xs : List ℕ) (n : ℕ) → cellOf (a ∷ b ∷ c ∷ xs) (3 + n) ≡ cellOf xs n
+later-cell a b c xs n =
+    let z : 3 + n ≡ suc (suc (suc n)) = omega arith in
+    ap (λ (m : ℕ). cellOf (a ∷ b ∷ c ∷ xs) m) z
+
+step-later : (s : PathStep) (path : List PathStep) (j k : ℕ) → cellOf (stepCells (s ∷ path)) (3 * suc j + k) ≡ cellOf (stepCells path) (3 * j + k)
+unfolding stepCells
+step-later s path j k =
+    let z : 3 * suc j + k ≡ 3 + (3 * j + k) = omega arith in
+    ap (λ (m : ℕ). cellOf (stepCells (s ∷ path)) m) z ∙ later-cell (s .name .start) (s .name .end) (indexCode (s .index)) (stepCells path) (3 * j + k)
+
+pub step-start : (path : List PathStep) (j : ℕ) → j < length path → cellOf (stepCells path) (3 * j) ≡ stepAt path j .name .start
+unfolding stepCells
+step-start [] j h = absurd (omega arith)
+step-start (s ∷ path) zero h = refl
+step-start (s ∷ path) (suc j) h =
+    let z : 3 * suc j ≡ 3 * suc j + 0 = omega arith in
+    let w : 3 * j + 0 ≡ 3 * j = omega arith in
+    ap (λ (m : ℕ). cellOf (stepCells (s ∷ path)) m) z ∙ step-later s path j 0 ∙ ap (λ (m : ℕ). cellOf (stepCells path) m) w ∙ step-start path j (omega (arith, h))
+
+pub step-end : (path : List PathStep) (j : ℕ) → j < length path → cellOf (stepCells path) (3 * j + 1) ≡ stepAt path j .name .end
+unfolding stepCells
+step-end [] j h = absurd (omega arith)
+step-end (s ∷ path) zero h = refl
+step-end (s ∷ path) (suc j) h = step-later s path j 1 ∙ step-end path j (omega (arith, h))
+
+pub step-code : (path : List PathStep) (j : ℕ) → j < length path → cellOf (stepCells path) (3 * j + 2) ≡ indexCode (stepAt path j .index)
+unfolding stepCells
+step-code [] j h = absurd (omega arith)
+step-code (s ∷ path) zero h = refl
+step-code (s ∷ path) (suc j) h = step-later s path j 2 ∙ step-code path j (omega (arith, h))
+
+pub step-cells-length : (path : List PathStep) → length (stepCells path) ≡ 3 * length path
+unfolding stepCells
+step-cells-length [] = refl
+step-cells-length (s ∷ path) = omega (arith, step-cells-length path)
+
+-- cells that are padded
+pub padded-cell : (n : ℕ) (xs : List ℕ) (k : ℕ) → k < n → cellOf (padded n xs) k ≡ cellOf xs k
+unfolding padded
+padded-cell zero xs k h = absurd (omega arith)
+padded-cell (suc n) [] zero h = refl
+padded-cell (suc n) [] (suc k) h = padded-cell n [] k (omega (arith, h))
+padded-cell (suc n) (x ∷ xs) zero h = refl
+padded-cell (suc n) (x ∷ xs) (suc k) h = padded-cell n xs k (omega (arith, h))
+
+-- the last step of an element's path has its name
+module _ (text t : List ℕ) (e : Extent) (depth : ℕ) (v : Visit) (s : Seen text t e depth v) where
+  pub seen-length : length (v .path) ≡ suc (length (s .before))
+  seen-length = ap length (s .whole) ∙ length-more (s .before) (s .last)
+
+  pub seen-last : stepAt (v .path) (length (v .path) - 1) .name ≡ v .name
+  seen-last =
+      let z : length (v .path) - 1 ≡ length (s .before) = omega (arith, seen-length) in
+      ap (λ (j : ℕ). stepAt (v .path) j .name) z ∙ ap (λ (p : List PathStep). stepAt p (length (s .before)) .name) (s .whole)
+      ∙ ap (λ (p : PathStep). p .name) (getD-last (s .before) (s .last) noStep) ∙ s .named
+
+  pub seen-place : cellOf (stepCells (v .path)) (3 * (length (v .path) - 1)) ≡ v .name .start
+  seen-place = step-start (v .path) (length (v .path) - 1) (omega (arith, seen-length)) ∙ ap (λ (n : Name). n .start) seen-last
+
+-- 18, 19 and 20 are kept
+or-left : (a b : Bool) → (a || b) ≡ false → a ≡ false
+or-left true b f = f
+or-left false b f = refl
+
+or-right : (a b : Bool) → (a || b) ≡ false → b ≡ false
+or-right true b f = absurd (let z : _≡_ {A = ℕ} 0 1 = cc in omega arith)
+or-right false b f = f
+
+module _ (n p : ℕ) (x : Fault) where
+  pass-test : (b : Bool) → (if b then Broken n p else x) ≡ Sound → b ≡ false
+  pass-test true f = absurd (let z : _≡_ {A = ℕ} 0 1 = cc in omega arith)
+  pass-test false f = refl
+
+  pass-on : (b : Bool) → (if b then Broken n p else x) ≡ Sound → x ≡ Sound
+  pass-on true f = absurd (let z : _≡_ {A = ℕ} 0 1 = cc in omega arith)
+  pass-on false f = f
+
+later-sound : (a b : Fault) → firstOf a b ≡ Sound → b ≡ Sound
+later-sound Sound b f = f
+later-sound (Broken n p) b f = absurd (let z : _≡_ {A = ℕ} 0 1 = cc in omega arith)
+
+pub few-levels : (table : List Definition) (registers fields : ℕ) (vs : List Visit) → tooMany table registers fields vs ≡ Sound → All (λ (v : Visit). length (v .path) ≤ 8) vs
+unfolding tooMany
+few-levels table registers fields [] f = all-none
+few-levels table registers fields (v ∷ vs) f =
+    let r : ℕ = if isRegisterVisit table v then suc registers else registers in
+    let k : ℕ = if isRegisterVisit table v then fields + length (definitionOf table (v .type) .instances) else fields in
+    let b : Bool = ltb nestLimit (length (v .path)) || (ltb registerLimit r || ltb fieldLimit k) in
+    let p : ℕ = v .name .start in
+    let d : ltb 8 (length (v .path)) ≡ false = or-left (ltb nestLimit (length (v .path))) (ltb registerLimit r || ltb fieldLimit k) (pass-test 18 p (tooMany table r k vs) b f) in
+    all-more (ltb-false 8 (length (v .path)) d) (few-levels table r k vs (pass-on 18 p (tooMany table r k vs) b f))
+
+pub none-short : (vs : List Visit) → tooClose vs ≡ Sound → All (λ (v : Visit). v .short ≡ false) vs
+unfolding tooClose
+none-short [] f = all-none
+none-short (v ∷ vs) f = all-more (pass-test 19 (v .name .start) (tooClose vs) (v .short) f) (none-short vs (pass-on 19 (v .name .start) (tooClose vs) (v .short) f))
+
+-- a register on a multiple of its access bytes, and its last byte in the range of addresses
+pub record Sited (shapes : List Shape) (v : Visit) : Type 0 where
+  pub aligned : v .address % shapeAt shapes (v .type) .access ≡ 0
+  pub within : v .address + shapeAt shapes (v .type) .size ≤ 4294967296
+
+sited-by : (shapes : List Shape) (v : Visit) (r : Bool) → (r && (not (eqb (v .address % shapeAt shapes (v .type) .access) 0) || ltb addressLimit (v .address + shapeAt shapes (v .type) .size))) ≡ false → r ≡ true → Sited shapes v
+sited-by shapes v true f y =
+    let s : Shape = shapeAt shapes (v .type) in
+    let a : Bool = eqb (v .address % s .access) 0 in
+    let b : Bool = ltb 4294967296 (v .address + s .size) in
+    record {
+      aligned = eqb-true (v .address % s .access) 0 (not-false a (or-left (not a) b f));
+      within = ltb-false 4294967296 (v .address + s .size) (or-right (not a) b f);
+    }
+sited-by shapes v false f y = absurd (let z : _≡_ {A = ℕ} 0 1 = cc in omega arith)
+
+pub all-sited : (table : List Definition) (shapes : List Shape) (vs : List Visit) → misplaced table shapes vs ≡ Sound → All (λ (v : Visit). isRegisterVisit table v ≡ true → Sited shapes v) vs
+unfolding misplaced
+all-sited table shapes [] f = all-none
+all-sited table shapes (v ∷ vs) f =
+    let s : Shape = shapeAt shapes (v .type) in
+    let b : Bool = isRegisterVisit table v && (not (eqb (v .address % s .access) 0) || ltb addressLimit (v .address + s .size)) in
+    let p : ℕ = v .name .start in
+    all-more (sited-by shapes v (isRegisterVisit table v) (pass-test 20 p (misplaced table shapes vs) b f)) (all-sited table shapes vs (pass-on 20 p (misplaced table shapes vs) b f))
+
+-- the registers among some elements
+pub registers-all : {P : Visit → Type 0} (table : List Definition) {vs : List Visit} → All P vs → All (λ (v : Visit). P v × (isRegisterVisit table v ≡ true)) (registersAmong table vs)
+unfolding registersAmong
+registers-all table all-none = all-none
+registers-all {P = P} table (all-more {x = v} {xs = vs} p a) =
+    either (λ (l : List Visit). All (λ (v : Visit). P v × (isRegisterVisit table v ≡ true)) l) (isRegisterVisit table v) (λ y. all-more (p, y) (registers-all table a)) (λ _. registers-all table a)
+
+-- a row of a register
+pub record RegisterKnown (text t : List ℕ) (e : Extent) (row : ℕ) : Type 0 where
+  pub register : Register
+  pub known-as : definitionOf (known text t e) row .component ≡ component.Register register
+  pub width : isWidth (register .width) ≡ true
+  pub access : isWidth (register .access) ≡ true
+  pub size : shapeAt (allShapes text t e) row .size ≡ register .width / 8
+  pub parts : shapeAt (allShapes text t e) row .access ≡ register .access / 8
+
+register-widths : {r : Register} → Fits (component.Register r) → (isWidth (r .width) ≡ true) × (isWidth (r .access) ≡ true)
+register-widths (register-fits p q) = (p, q)
+
+known-by : (text t : List ℕ) (e : Extent) (row : ℕ) → Ready text t e → row < e .rows → (c : Component) → definitionOf (known text t e) row .component ≡ c → isRegister c ≡ true → RegisterKnown text t e row
+known-by text t e row ready low (component.Field f) k y = absurd (let z : _≡_ {A = ℕ} 0 1 = cc in omega arith)
+known-by text t e row ready low (component.Regfile a) k y = absurd (let z : _≡_ {A = ℕ} 0 1 = cc in omega arith)
+known-by text t e row ready low (component.Addrmap a m) k y = absurd (let z : _≡_ {A = ℕ} 0 1 = cc in omega arith)
+known-by text t e row ready low (component.Register r) k y =
+    let f : RowFits (e .mode) (known text t e) row = ready-row text t e row ready low in
+    let w = register-widths {r = r} (rw k at (f .fits .values)) in
+    let before : List Shape = shapesFrom (e .mode) [] (f .before) in
+    let cs : List Child = definitionOf (known text t e) row .instances in
+    let z : shapeAt (allShapes text t e) row ≡ record { size = r .width / 8; access = r .access / 8 } =
+    f .shape ∙ ap (λ (d : Component). shapeOf (e .mode) before d cs) k in
+    record {
+      register = r;
+      known-as = k;
+      width = w .0;
+      access = w .1;
+      size = ap (λ (s : Shape). s .size) z;
+      parts = ap (λ (s : Shape). s .access) z;
+    }
+
+pub known-register : (text t : List ℕ) (e : Extent) (row : ℕ) → Ready text t e → row < e .rows → isRegister (definitionOf (known text t e) row .component) ≡ true → RegisterKnown text t e row
+known-register text t e row ready low y = known-by text t e row ready low (definitionOf (known text t e) row .component) refl y
+
+-- its size and its access width are small: cut, they stay
+module _ (text t : List ℕ) (e : Extent) (row : ℕ) (r : RegisterKnown text t e row) where
+  pub register-size : (1 ≤ shapeAt (allShapes text t e) row .size) × (shapeAt (allShapes text t e) row .size ≤ 8)
+  register-size =
+      let w = width-range (r .register .width) (r .width) in
+      let z = r .size in
+      (omega (arith, w, z), omega (arith, w, z))
+
+  pub register-parts : (1 ≤ shapeAt (allShapes text t e) row .access) × (shapeAt (allShapes text t e) row .access ≤ 8)
+  register-parts =
+      let w = width-range (r .register .access) (r .access) in
+      let z = r .parts in
+      (omega (arith, w, z), omega (arith, w, z))
+
+  pub register-whole : cutShape (shapeAt (allShapes text t e) row) ≡ shapeAt (allShapes text t e) row
+  register-whole =
+      let s : Shape = shapeAt (allShapes text t e) row in
+      let a : cut (s .size) ≡ s .size = cut-low (s .size) (omega (arith, register-size)) in
+      let b : cut (s .access) ≡ s .access = cut-low (s .access) (omega (arith, register-parts)) in
+      ap (λ (n : ℕ). record { size = n; access = cut (s .access) }) a ∙ ap (λ (n : ℕ). record { size = s .size; access = n }) b
+
+-- a register of a map that keeps 18, 19 and 20
+pub record RegisterSeen (text t : List ℕ) (e : Extent) (v : Visit) : Type 0 where
+  pub seen : Seen text t e 0 v
+  pub register : isRegisterVisit (known text t e) v ≡ true
+  pub type : RegisterKnown text t e (v .type)
+  pub shallow : length (v .path) ≤ 8
+  pub sited : Sited (allShapes text t e) v
+  pub exact : cut (v .address) ≡ v .address
+
+pub registers-seen : (text t : List ℕ) (e : Extent) (row : ℕ) → Ready text t e → row < e .rows → surveyFault (known text t e) (allShapes text t e) (elementsOf text t e row) ≡ Sound
+    → All (RegisterSeen text t e) (registersOf text t e row)
+registers-seen text t e row ready low f =
+    let table : List Definition = known text t e in
+    let shapes : List Shape = allShapes text t e in
+    let vs : List Visit = elementsOf text t e row in
+    let a : tooMany table 0 0 vs ≡ Sound = first-sound (tooMany table 0 0 vs) (firstOf (tooClose vs) (misplaced table shapes vs)) f in
+    let b : misplaced table shapes vs ≡ Sound = later-sound (tooClose vs) (misplaced table shapes vs) (later-sound (tooMany table 0 0 vs) (firstOf (tooClose vs) (misplaced table shapes vs)) f) in
+    all-map
+    (λ v p.
+    let s : Sited shapes v = p .0 .1 .1 (p .1) in
+    record {
+      seen = p .0 .0;
+      register = p .1;
+      type = known-register text t e (v .type) ready (p .0 .0 .low) (p .1);
+      shallow = p .0 .1 .0;
+      sited = s;
+      exact = cut-low (v .address) (omega (arith, s .within));
+    })
+    (registers-all table (all-both (elements-of-seen text t e row ready low) (all-both (few-levels table 0 0 vs a) (all-sited table shapes vs b))))

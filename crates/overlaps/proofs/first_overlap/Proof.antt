@@ -1,0 +1,27 @@
+-- 21 of the registers that are left is 21 of the map.
+use borrow.Author.Needs.{needs}
+use Prim.Native.Nat.{_-_}
+use Rattle.overlaps.proofs.Plots.{Searching, searching-start, searching-low, searching-few, searching-depth, searching-hit, searching-next, searching-end}
+use Rattle.overlaps.proofs.first_overlap.Statement.{statement}
+use Rattle.overlaps.proofs.first_overlap.Tie as tie
+
+abbrev Inv-loop : tie.InvT-loop
+Inv-loop text cells shapes log extent row count i₀ i = Searching text cells shapes log extent row count i
+
+abbrev μ-loop : tie.MeasureT-loop
+μ-loop text cells shapes log extent row count i₀ i = count - i
+
+pub first-overlap-spec : {M : Type 1} → statement M
+first-overlap-spec =
+    tie.close
+    (tie.spec
+    Inv-loop
+    μ-loop
+    (λ c. search searching-start)
+    (λ c κs. search (needs, searching-low))
+    (λ c κs. search (needs, searching-few, searching-depth))
+    (λ c. search searching-hit)
+    (λ c. search needs)
+    (λ c. search needs)
+    (λ c. search searching-next)
+    (λ c. search searching-end))

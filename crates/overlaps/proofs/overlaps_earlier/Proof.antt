@@ -1,0 +1,28 @@
+-- The register overlaps one of those that are left exactly when it overlaps one of all before it.
+use borrow.Author.Needs.{needs}
+use Prim.Native.Nat.{_-_}
+use Rattle.overlaps.proofs.Plots.{index-few, row-few, Comparing, comparing-start, comparing-own, earlier-few, earlier-row, earlier-fits, comparing-hit, comparing-next, comparing-end}
+use Rattle.overlaps.proofs.overlaps_earlier.Statement.{statement}
+use Rattle.overlaps.proofs.overlaps_earlier.Tie as tie
+
+abbrev Inv-loop : tie.InvT-loop
+Inv-loop text cells shapes log extent row i plot j₀ j = Comparing text cells shapes log extent row i plot j
+
+abbrev μ-loop : tie.MeasureT-loop
+μ-loop text cells shapes log extent row i plot j₀ j = i - j
+
+pub overlaps-earlier-spec : {M : Type 1} → statement M
+overlaps-earlier-spec =
+    tie.close
+    (tie.spec
+    Inv-loop
+    μ-loop
+    (λ c κs. search (needs, index-few, row-few))
+    (λ c. search comparing-start)
+    (λ c κs. search (needs, earlier-few, earlier-row))
+    (λ c κs. search (needs, comparing-own, earlier-fits))
+    (λ c. search comparing-hit)
+    (λ c. search needs)
+    (λ c. search needs)
+    (λ c. search comparing-next)
+    (λ c. search comparing-end))

@@ -1,0 +1,165 @@
+// 21: the first register in map order that shares a byte with an earlier one unlawfully.
+use components::Component;
+use settings::Access;
+use shapes::Extent;
+use suffixes::Fault;
+ghost use mathlib.Core.Path.{_≡_};
+ghost use mathlib.Core.List.{[]};
+ghost use Prim.Native.Nat.{_+_, _*_, _<_, _≤_};
+ghost use lib.ListN.{length, take};
+ghost use Rattle.table.specs.Cells.{cellOf};
+ghost use Rattle.shapes.specs.Ready.{known, Ready};
+ghost use Rattle.shapes.specs.Shapes.{allShapes};
+ghost use Rattle.map.specs.Whole.{hasAccess, isPair, overlapsOne, overlapping};
+ghost use Rattle.walk.specs.Walks.{visitAt, elementsOf, registersOf};
+ghost use Rattle.overlaps.specs.Charted.{Charted, hasIn, plotIn, plotsOverlap, PlotFits};
+
+// A register of the log: its type's row, its address and its size in bytes.
+pub struct Plot {
+    pub row: usize,
+    pub address: u64,
+    pub size: u64,
+}
+
+// Whether a field has this access; what is no field has each.
+fn is_access(component: Component, access: u64) -> bool
+    ensures { λ r. ⌜ r ≡ hasIn access component ⌝ }
+{
+    match component {
+        Component::Field(field) => field.sw == access,
+        Component::Register(_) => true,
+        Component::Regfile(_) => true,
+        Component::Addrmap(_, _) => true,
+    }
+}
+
+// Whether every field of a register has this access.
+fn has_access(text: &[u8], cells: &[u64], extent: Extent, row: usize, access: u64) -> bool
+    requires { ⌜ Ready (now text) (now cells) extent × (row < extent .rows) ⌝ }
+    ensures { λ r. ⌜ r ≡ hasAccess (known (now (text .entry)) (now (cells .entry)) extent) access row ⌝ }
+{
+    let span = shapes::instances_of(text, cells, extent, row);
+    let mut i = span.from;
+    while i < span.to {
+        let entry = table::cell(cells, i);
+        let component = table::component_at(cells, table::row_in(entry));
+        if !is_access(component, access) {
+            return false;
+        }
+        i += 1;
+    }
+    true
+}
+
+// Whether one register is read-only and the other write-only.
+fn is_pair(text: &[u8], cells: &[u64], extent: Extent, reader: usize, writer: usize) -> bool
+    requires { ⌜ Ready (now text) (now cells) extent × (reader < extent .rows) × (writer < extent .rows) ⌝ }
+    ensures { λ r. ⌜ r ≡ isPair (known (now (text .entry)) (now (cells .entry)) extent) reader writer ⌝ }
+{
+    if !has_access(
+        text,
+        cells,
+        extent,
+        reader,
+        settings::access_code(Access::R),
+    ) {
+        return false;
+    }
+    has_access(
+        text,
+        cells,
+        extent,
+        writer,
+        settings::access_code(Access::W),
+    )
+}
+
+// A register of the log.
+fn plot_at(shapes: &[u64], log: &[u64], i: usize) -> Plot
+    requires { ⌜ (i ≤ 1024) × (cellOf (now log) (i * 27 + 1) < 256) ⌝ }
+    ensures { λ r. ⌜ r ≡ plotIn (now (shapes .entry)) (now (log .entry)) i ⌝ }
+{
+    let start = i * walk::LOG_ROW;
+    let address = table::cell(log, start);
+    let row = table::cell(log, start + 1) as usize;
+    let shape = shapes::shape_at(shapes, row);
+    Plot {
+        row,
+        address,
+        size: shape.size,
+    }
+}
+
+// Whether two registers share a byte unlawfully.
+fn is_overlap(text: &[u8], cells: &[u64], extent: Extent, v: Plot, u: Plot) -> bool
+    requires { ⌜ Ready (now text) (now cells) extent × PlotFits extent v × PlotFits extent u ⌝ }
+    ensures { λ r. ⌜ r ≡ plotsOverlap (known (now (text .entry)) (now (cells .entry)) extent) v u ⌝ }
+{
+    if u.address + u.size <= v.address {
+        return false;
+    }
+    if v.address + v.size <= u.address {
+        return false;
+    }
+    if is_pair(text, cells, extent, v.row, u.row) {
+        return false;
+    }
+    !is_pair(text, cells, extent, u.row, v.row)
+}
+
+// Whether a register overlaps an earlier one.
+fn overlaps_earlier(
+    text: &[u8],
+    cells: &[u64],
+    shapes: &[u64],
+    log: &[u64],
+    extent: Extent,
+    row: usize,
+    i: usize,
+) -> bool
+    requires { ⌜ Charted (now text) (now cells) (now shapes) (now log) extent row × (i < length (registersOf (now text) (now cells) extent row)) ⌝ }
+    ensures { λ r. ⌜ r ≡ overlapsOne (known (now (text .entry)) (now (cells .entry)) extent) (allShapes (now (text .entry)) (now (cells .entry)) extent) (visitAt (registersOf (now (text .entry)) (now (cells .entry)) extent row) i) (take i (registersOf (now (text .entry)) (now (cells .entry)) extent row)) ⌝ }
+{
+    let plot = plot_at(shapes, log, i);
+    let mut j = 0;
+    while j < i {
+        if is_overlap(text, cells, extent, plot, plot_at(shapes, log, j)) {
+            return true;
+        }
+        j += 1;
+    }
+    false
+}
+
+// Where the name of a register of the log stands: that of its path's last step.
+fn place_at(log: &[u64], i: usize) -> usize
+    requires { ⌜ (i ≤ 1024) × (cellOf (now log) (i * 27 + 2) ≤ 8) ⌝ }
+    ensures { λ r. ⌜ r ≡ cellOf (now (log .entry)) (i * 27 + 3 * cellOf (now (log .entry)) (i * 27 + 2)) ⌝ }
+{
+    let start = i * walk::LOG_ROW;
+    let depth = table::cell(log, start + 2) as usize;
+    table::cell(log, start + 3 * depth) as usize
+}
+
+// The first register that overlaps an earlier one.
+pub fn first_overlap(
+    text: &[u8],
+    cells: &[u64],
+    shapes: &[u64],
+    log: &[u64],
+    extent: Extent,
+    row: usize,
+    count: usize,
+) -> Fault
+    requires { ⌜ Charted (now text) (now cells) (now shapes) (now log) extent row × (count ≡ length (registersOf (now text) (now cells) extent row)) ⌝ }
+    ensures { λ r. ⌜ r ≡ overlapping (known (now (text .entry)) (now (cells .entry)) extent) (allShapes (now (text .entry)) (now (cells .entry)) extent) [] (elementsOf (now (text .entry)) (now (cells .entry)) extent row) ⌝ }
+{
+    let mut i = 0;
+    while i < count {
+        if overlaps_earlier(text, cells, shapes, log, extent, row, i) {
+            return Fault::Broken(21, place_at(log, i));
+        }
+        i += 1;
+    }
+    Fault::Sound
+}

@@ -1,0 +1,13 @@
+use borrow.Author.Needs.{needs}
+use Rattle.rows.proofs.Names.{follow-zero, follow-none, follow-some}
+use Rattle.rows.proofs.follows_byte.Statement.{statement}
+use Rattle.rows.proofs.follows_byte.Tie as tie
+
+pub follows-byte-spec : {M : Type 1} → statement M
+follows-byte-spec =
+    tie.close
+    (tie.spec
+    (λ c. search follow-zero)
+    (λ c. search follow-none)
+    (λ c κs. search needs)
+    (λ c. search follow-some))

@@ -1,0 +1,12 @@
+use Rattle.rows.proofs.Fields.{ranged-sw, ranged-hw, ranged-read, ranged-write}
+use Rattle.rows.proofs.is_ranged.Statement.{statement}
+use Rattle.rows.proofs.is_ranged.Tie as tie
+
+pub is-ranged-spec : {M : Type 1} → statement M
+is-ranged-spec =
+    tie.close
+    (tie.spec
+    (λ c. search ranged-sw)
+    (λ c. search ranged-hw)
+    (λ c. search ranged-read)
+    (λ c. search ranged-write))

@@ -1,0 +1,11 @@
+use Rattle.rows.proofs.Fields.{form-given, form-other, form-none}
+use Rattle.rows.proofs.is_reset_form.Statement.{statement}
+use Rattle.rows.proofs.is_reset_form.Tie as tie
+
+pub is-reset-form-spec : {M : Type 1} → statement M
+is-reset-form-spec =
+    tie.close
+    (tie.spec
+    (λ c. search form-given)
+    (λ c. search form-other)
+    (λ c. search form-none))

@@ -1,0 +1,13 @@
+use borrow.Author.Needs.{needs}
+use Rattle.rows.proofs.Registers.{run-elsewhere, run-empty, run-some}
+use Rattle.rows.proofs.is_run.Statement.{statement}
+use Rattle.rows.proofs.is_run.Tie as tie
+
+pub is-run-spec : {M : Type 1} → statement M
+is-run-spec =
+    tie.close
+    (tie.spec
+    (λ c. search run-elsewhere)
+    (λ c. search run-empty)
+    (λ c. search needs)
+    (λ c. search run-some))

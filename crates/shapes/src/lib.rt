@@ -1,0 +1,147 @@
+// The sizes and access widths of a text's definitions, in the order of closing braces: a definition is made of earlier ones only.
+use components::Component;
+use components::Offset;
+use components::Register;
+use layout::Shape;
+use parts::InstanceReading;
+use properties::Given;
+ghost use mathlib.Core.Path.{_≡_};
+ghost use Prim.Native.Nat.{_+_, _*_, _/_, _<_, _≤_};
+ghost use lib.ListN.{length, set};
+ghost use Rattle.table.specs.Cells.{filedAt, firstIn, countIn};
+ghost use Rattle.offsets.specs.Offsets.{larger};
+ghost use Rattle.shapes.specs.Ready.{Ready};
+ghost use Rattle.shapes.specs.Shapes.{shapeIn, ShapesIn, allShapes, GroupRow, ShapesBefore, RowShape};
+
+// How many definitions and instances of closed definitions the cells hold, and the map's mode.
+pub struct Extent {
+    pub rows: usize,
+    pub filed: usize,
+    pub mode: u64,
+}
+
+// The cells of a definition's instances: from one up to another.
+pub struct Span {
+    pub from: usize,
+    pub to: usize,
+}
+
+// The cells of a definition's instances.
+pub fn instances_of(text: &[u8], cells: &[u64], extent: Extent, row: usize) -> Span
+    requires { ⌜ Ready (now text) (now cells) extent × (row < extent .rows) ⌝ }
+    ensures { λ r. ⌜ (r .from ≡ filedAt + firstIn (now (cells .entry)) row) × (r .to ≡ r .from + countIn (now (cells .entry)) row) ⌝ }
+{
+    let start = row * 16;
+    let first = table::cell(cells, start + 7);
+    let count = table::cell(cells, start + 8);
+    let from = table::FILED + first as usize;
+    Span {
+        from,
+        to: from + count as usize,
+    }
+}
+
+// The shape of a row.
+pub fn shape_at(shapes: &[u64], row: usize) -> Shape
+    requires { ⌜ row < 256 ⌝ }
+    ensures { λ r. ⌜ r ≡ shapeIn (now (shapes .entry)) row ⌝ }
+{
+    let size = table::cell(shapes, row * 2);
+    let access = table::cell(shapes, row * 2 + 1);
+    Shape { size, access }
+}
+
+fn put_shape(shapes: &mut [u64], row: usize, shape: Shape)
+    requires { ⌜ row < 256 ⌝ }
+    ensures { λ _. ⌜ now (shapes .exit) ≡ set (set (now (shapes .entry)) (row * 2) (shape .size)) (row * 2 + 1) (shape .access) ⌝ }
+{
+    table::put(shapes, row * 2, shape.size);
+    table::put(shapes, row * 2 + 1, shape.access);
+}
+
+// The later of two offsets.
+fn later_of(a: Offset, b: Offset) -> Offset
+    ensures { λ r. ⌜ r .0 ≡ larger (a .0) (b .0) ⌝ }
+{
+    let highest = offsets::larger_of(a.0, b.0);
+    Offset(highest)
+}
+
+// A body's shape: its highest end, and the largest access width inside.
+fn group_shape(
+    text: &[u8],
+    cells: &[u64],
+    shapes: &[u64],
+    extent: Extent,
+    row: usize,
+    alignment: Given,
+) -> Shape
+    requires { ⌜ Ready (now text) (now cells) extent × (row < extent .rows) × ShapesBefore (now text) (now cells) (now shapes) extent row × GroupRow (now cells) row alignment ⌝ }
+    ensures { λ r. ⌜ RowShape (now (text .entry)) (now (cells .entry)) extent row r ⌝ }
+{
+    let span = instances_of(text, cells, extent, row);
+    let mut i = span.from;
+    let mut end = Offset(0);
+    let mut highest = Offset(0);
+    let mut access = 0;
+    while i < span.to {
+        let entry = table::cell(cells, i);
+        match parts::read_instance(text, table::place_in(entry)) {
+            InstanceReading::Done(instance, _) => {
+                let shape = shape_at(shapes, table::row_in(entry));
+                let laid = layout::lay(extent.mode, alignment, shape, instance, end);
+                end = laid.end;
+                highest = later_of(highest, end);
+                access = offsets::larger_of(access, shape.access);
+                i += 1;
+            }
+            InstanceReading::Stop(_) => {
+                return Shape {
+                    size: highest.0,
+                    access,
+                };
+            }
+        }
+    }
+    Shape {
+        size: highest.0,
+        access,
+    }
+}
+
+fn register_shape(register: Register) -> Shape
+    ensures { λ r. ⌜ (r .size ≡ register .width / 8) × (r .access ≡ register .access / 8) ⌝ }
+{
+    Shape {
+        size: register.width / 8,
+        access: register.access / 8,
+    }
+}
+
+// A definition's shape, from those of the definitions before it.
+fn shape_of(text: &[u8], cells: &[u64], shapes: &[u64], extent: Extent, row: usize) -> Shape
+    requires { ⌜ Ready (now text) (now cells) extent × (row < extent .rows) × ShapesBefore (now text) (now cells) (now shapes) extent row ⌝ }
+    ensures { λ r. ⌜ RowShape (now (text .entry)) (now (cells .entry)) extent row r ⌝ }
+{
+    match table::component_at(cells, row) {
+        Component::Field(_) => Shape { size: 0, access: 0 },
+        Component::Register(register) => register_shape(register),
+        Component::Regfile(alignment) => group_shape(text, cells, shapes, extent, row, alignment),
+        Component::Addrmap(alignment, _) => {
+            group_shape(text, cells, shapes, extent, row, alignment)
+        }
+    }
+}
+
+// The shapes of all definitions.
+pub fn fill_shapes(text: &[u8], cells: &[u64], shapes: &mut [u64], extent: Extent)
+    requires { ⌜ Ready (now text) (now cells) extent × (512 ≤ length (now shapes)) ⌝ }
+    ensures { λ _. ⌜ ShapesIn (now (shapes .exit)) (extent .rows) (allShapes (now (text .entry)) (now (cells .entry)) extent) ⌝ }
+{
+    let mut row = 0;
+    while row < extent.rows {
+        let shape = shape_of(text, cells, shapes, extent, row);
+        put_shape(shapes, row, shape);
+        row += 1;
+    }
+}

@@ -1,0 +1,148 @@
+-- The elements of an instance, one after another.
+use mathlib.Core.Path.{_≡_, refl, ap, _∙_}
+use mathlib.Core.List.{List, [], _∷_, _++_}
+use Prim.Native.Nat.{ℕ, suc, _+_, _-_, _*_, _≤_, _<_}
+use native.Mathlib.Numerals.{add-one}
+use native.Mathlib.Omega.{arith}
+use lib.ListN.{length}
+use Rattle.table.specs.Definitions.{Child, Definition}
+use Rattle.offsets.specs.Offsets.{cap, cut}
+use Rattle.offsets.proofs.Laws.{cut-sum}
+use Rattle.layout.specs.declared.Shape.{Shape}
+use Rattle.layout.specs.declared.Laid.{Laid}
+use Rattle.layout.specs.Layout.{shapeAt, elements}
+use Rattle.map.specs.Visits.{PathStep, Visit, indexIn, elementVisits, visitsIn}
+use Rattle.shapes.specs.declared.Extent.{Extent}
+use Rattle.shapes.specs.Ready.{known}
+use Rattle.shapes.specs.Shapes.{allShapes}
+use Rattle.walk.specs.declared.Trail.{Trail}
+use Rattle.walk.specs.declared.Tally.{Tally}
+use Rattle.walk.specs.declared.Kid.{Kid}
+use Rattle.walk.specs.declared.Element.{Element}
+use Rattle.walk.specs.declared.Walked.{Walked}
+use Rattle.walk.specs.declared.Walked.the-variants as walked
+use Rattle.rows.specs.Rows.{indexCode}
+use Rattle.walk.specs.Walks.{Small, Trails, Walks, visitOf, ElementWalks, KidOf, KidFits, ArrayWalks}
+use Rattle.walk.proofs.Runs.{Onto, onto-start, onto-end, onto-on, onto-fault}
+use Rattle.walk.proofs.Contents.{small-same, small-none}
+
+-- an element of an instance
+abbrev pub elementOf : Kid → ℕ → ℕ → Element
+elementOf kid i address = record { row = kid .row; name = kid .instance .name; index = i; address = address; short = kid .short }
+
+-- where the element of an index is
+abbrev placeOf : ℕ → Laid → ℕ → ℕ
+placeOf base l k = base + (l .start .0 + l .stride * k)
+
+-- an element and its content, as they are walked over
+abbrev elementWith : ℕ → ℕ → List Definition → List Shape → Kid → ℕ → ℕ → List PathStep → ℕ → ℕ → List Visit
+elementWith levels m table shapes kid i address path k place =
+    visitOf (elementOf kid i address) path (indexIn (kid .instance .array) k) place ∷
+    visitsIn levels m table shapes (kid .row) place (path ++ (record { name = kid .instance .name; index = indexIn (kid .instance .array) k } ∷ []))
+
+elements-none : (content : ℕ → List PathStep → List Visit) (path : List PathStep) (c : Child) (base : ℕ) (s : Shape) (l : Laid) (k : ℕ) {n : ℕ} → n ≡ 0 → elementVisits content path c base s l k n ≡ []
+unfolding elementVisits
+elements-none content path c base s l k e = rw e
+
+elements-more : (levels m : ℕ) (table : List Definition) (shapes : List Shape) {kid : Kid} (i address : ℕ) (path : List PathStep) (c : Child) (base : ℕ) {s : Shape} (l : Laid) (k : ℕ) {n r : ℕ} → KidOf kid c s l base → n ≡ suc r
+    → elementVisits (visitsIn levels m table shapes (c .type)) path c base s l k n
+    ≡ elementWith levels m table shapes kid i address path k (placeOf base l k) ++ elementVisits (visitsIn levels m table shapes (c .type)) path c base s l (suc k) r
+unfolding elementVisits
+elements-more levels m table shapes i address path c base l k o e = rw (e, o .row, o .instance, o .short)
+
+pub record ArrayLeft (text t before : List ℕ) (e : Extent) (levels : ℕ) (start : Tally) (k address : ℕ) (tally : Tally) (log : List ℕ) (path : List PathStep) (c : Child) (l : Laid) (base : ℕ) : Type 0 where
+  pub place : address ≡ cut (base + (l .start .0 + l .stride * k))
+  pub onto : Onto (known text t e) (allShapes text t e) before start
+      (elementVisits (visitsIn levels (e .mode) (known text t e) (allShapes text t e) (c .type)) path c base (shapeAt (allShapes text t e) (c .type)) l 0 (elements (c .instance .array)))
+      log tally
+      (elementVisits (visitsIn levels (e .mode) (known text t e) (allShapes text t e) (c .type)) path c base (shapeAt (allShapes text t e) (c .type)) l k (elements (c .instance .array) - k))
+
+pub record Arraying (text t before : List ℕ) (e : Extent) (levels : ℕ) (kid : Kid) (trail : Trail) (start : Tally) (k address : ℕ) (tally : Tally) (log : List ℕ) : Type 0 where
+  pub low : address ≤ cap
+  pub small : Small tally
+  pub long : length log ≡ length before
+  pub each : (path : List PathStep) (c : Child) (l : Laid) (base : ℕ) → Trails trail path → KidOf kid c (shapeAt (allShapes text t e) (c .type)) l base
+      → ArrayLeft text t before e levels start k address tally log path c l base
+
+module _ (text t before : List ℕ) (e : Extent) (levels : ℕ) (kid : Kid) (trail : Trail) (start : Tally) where
+  pub array-start : KidFits e kid → Small start → Arraying text t before e levels kid trail start 0 (kid .address) start before
+  array-start f s =
+      record {
+        low = f .address;
+        small = s;
+        long = refl;
+        each = λ path c l base tr o.
+            let z : base + (l .start .0 + l .stride * 0) ≡ base + l .start .0 = omega arith in
+            let n : elements (c .instance .array) - 0 ≡ elements (c .instance .array) = omega arith in
+            record { place = rw z (o .address); onto = rw n onto-start };
+      }
+
+  module _ {k address : ℕ} {tally : Tally} {log : List ℕ} (g : Arraying text t before e levels kid trail start k address tally log) {count : ℕ} (m : count ≡ elements (kid .instance .array)) where
+    pub array-end : count ≤ k → ArrayWalks text t before log e levels kid trail start (walked.On tally)
+    array-end h =
+        record {
+          small = small-same (g .small);
+          each = λ path c l base tr o.
+              let n : elements (c .instance .array) - k ≡ 0 = rw (← o .instance, ← m) (omega (arith, h)) in
+              let z : elementVisits (visitsIn levels (e .mode) (known text t e) (allShapes text t e) (c .type)) path c base (shapeAt (allShapes text t e) (c .type)) l k (elements (c .instance .array) - k) ≡ [] =
+              elements-none (visitsIn levels (e .mode) (known text t e) (allShapes text t e) (c .type)) path c base (shapeAt (allShapes text t e) (c .type)) l k n in
+              onto-end (rw z at (g .each path c l base tr o .onto));
+        }
+
+    module _ (h : k < count) where
+      pub index-fits : KidFits e kid → k < 4294967296
+      index-fits f = omega (arith, h, m, f .count)
+
+      pub array-falls : count - (k + 1) < count - k
+      array-falls = omega (arith, h)
+
+    module _ (h : k < count) {i : ℕ} (q : i ≡ indexCode (indexIn (kid .instance .array) k)) {after : List ℕ} {r : Walked}
+        (w : ElementWalks text t log after e levels (record { row = kid .row; name = kid .instance .name; index = i; address = address; short = kid .short }) trail tally r) where
+      -- what is left, with the next element first
+      next : (path : List PathStep) (c : Child) (l : Laid) (base : ℕ) → Trails trail path → KidOf kid c (shapeAt (allShapes text t e) (c .type)) l base
+          → Onto (known text t e) (allShapes text t e) before start
+          (elementVisits (visitsIn levels (e .mode) (known text t e) (allShapes text t e) (c .type)) path c base (shapeAt (allShapes text t e) (c .type)) l 0 (elements (c .instance .array)))
+          log tally
+          (elementWith levels (e .mode) (known text t e) (allShapes text t e) kid i address path k (base + (l .start .0 + l .stride * k)) ++
+          elementVisits (visitsIn levels (e .mode) (known text t e) (allShapes text t e) (c .type)) path c base (shapeAt (allShapes text t e) (c .type)) l (suc k) (elements (c .instance .array) - suc k))
+      next path c l base tr o =
+          let n : elements (c .instance .array) - k ≡ suc (elements (c .instance .array) - suc k) = rw (← o .instance, ← m) (omega (arith, h)) in
+          rw (elements-more levels (e .mode) (known text t e) (allShapes text t e) i address path c base l k o n) at (g .each path c l base tr o .onto)
+
+      walks : (path : List PathStep) (c : Child) (l : Laid) (base : ℕ) → Trails trail path → KidOf kid c (shapeAt (allShapes text t e) (c .type)) l base
+          → Walks (known text t e) (allShapes text t e) log after tally
+          (elementWith levels (e .mode) (known text t e) (allShapes text t e) kid i address path k (base + (l .start .0 + l .stride * k))) r
+      walks path c l base tr o = w .each path (indexIn (kid .instance .array) k) (base + (l .start .0 + l .stride * k)) tr q (g .each path c l base tr o .place)
+
+      pub array-fault : {p : ℕ} → r ≡ walked.Fault p → ArrayWalks text t before after e levels kid trail start (walked.Fault p)
+      array-fault f =
+          record {
+            small = small-none;
+            each = λ path c l base tr o.
+                onto-fault (elementWith levels (e .mode) (known text t e) (allShapes text t e) kid i address path k (base + (l .start .0 + l .stride * k)))
+                (elementVisits (visitsIn levels (e .mode) (known text t e) (allShapes text t e) (c .type)) path c base (shapeAt (allShapes text t e) (c .type)) l (suc k) (elements (c .instance .array) - suc k))
+                (next path c l base tr o) (walks path c l base tr o) f;
+          }
+
+      pub array-on : {u : Tally} {past : ℕ} → length after ≡ length log → r ≡ walked.On u → (past ≡ cut (address + kid .stride)) × (past ≤ cap)
+          → Arraying text t before e levels kid trail start (k + 1) past u after
+      array-on {u} {past} long f y =
+          let z : k + 1 ≡ suc k = add-one k in
+          rw z
+          (record {
+            low = y .1;
+            small = w .small u f;
+            long = long ∙ g .long;
+            each = λ path c l base tr o.
+                let p : base + (l .start .0 + l .stride * k) + l .stride ≡ base + (l .start .0 + l .stride * suc k) = omega arith in
+                record {
+                  place =
+                      y .0 ∙ ap (λ (n : ℕ). cut (n + kid .stride)) (g .each path c l base tr o .place)
+                      ∙ ap (λ (n : ℕ). cut (cut (base + (l .start .0 + l .stride * k)) + n)) (o .stride)
+                      ∙ cut-sum (base + (l .start .0 + l .stride * k)) (l .stride) ∙ ap cut p;
+                  onto =
+                      onto-on (elementWith levels (e .mode) (known text t e) (allShapes text t e) kid i address path k (base + (l .start .0 + l .stride * k)))
+                      (elementVisits (visitsIn levels (e .mode) (known text t e) (allShapes text t e) (c .type)) path c base (shapeAt (allShapes text t e) (c .type)) l (suc k) (elements (c .instance .array) - suc k))
+                      (next path c l base tr o) (walks path c l base tr o) f;
+                };
+          })

@@ -1,0 +1,10 @@
+pub mod Runs
+pub mod Trails
+pub mod Visited
+pub mod Whole
+pub mod Rowed
+pub mod Leaves
+pub mod Contents
+pub mod Arrays
+pub mod Bodies
+pub mod Surveys

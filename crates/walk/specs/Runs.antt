@@ -1,0 +1,62 @@
+-- One run over a map's elements, as the code makes it: 18 ends it, the first 19 and the first 20 are kept, and registers are logged.
+use mathlib.Core.Bool.{Bool, true, false, _||_}
+use mathlib.Core.List.{List, [], _∷_, _++_}
+use Prim.Native.Nat.{ℕ, suc, _+_, _*_}
+use lib.Dec.{ltb}
+use lib.ListN.{length}
+use Rattle.chars.specs.Choice.{if_then_else_}
+use Rattle.parts.specs.declared.Name.{Name}
+use Rattle.suffixes.specs.Suffixes.{firstOf}
+use Rattle.properties.specs.Judged.{Judged, fault, fine, unless}
+use Rattle.table.specs.Cells.{written}
+use Rattle.table.specs.Definitions.{Definition, definitionOf}
+use Rattle.offsets.specs.Offsets.{cut}
+use Rattle.layout.specs.declared.Shape.{Shape}
+use Rattle.rows.specs.Limits.{nestLimit, registerLimit, fieldLimit}
+use Rattle.map.specs.Visits.{PathStep, Visit}
+use Rattle.map.specs.Whole.{isRegisterVisit, tooClose, misplaced}
+use Rattle.rows.specs.Rows.{padded, indexCode}
+use Rattle.walk.specs.declared.Tally.{Tally}
+
+-- the counts with an element
+abbrev pub registersWith : List Definition → Tally → Visit → ℕ
+registersWith table t v = if isRegisterVisit table v then suc (t .registers) else t .registers
+
+abbrev pub fieldsWith : List Definition → Tally → Visit → ℕ
+fieldsWith table t v = if isRegisterVisit table v then t .fields + length (definitionOf table (v .type) .instances) else t .fields
+
+unfoldable pub isTooMany : List Definition → Tally → Visit → Bool
+isTooMany table t v = ltb nestLimit (length (v .path)) || (ltb registerLimit (registersWith table t v) || ltb fieldLimit (fieldsWith table t v))
+
+unfoldable pub tallied : List Definition → List Shape → Tally → Visit → Tally
+tallied table shapes t v =
+    record {
+      registers = registersWith table t v;
+      fields = fieldsWith table t v;
+      close = firstOf (t .close) (tooClose (v ∷ []));
+      misplaced = firstOf (t .misplaced) (misplaced table shapes (v ∷ []));
+    }
+
+unfoldable pub run : List Definition → List Shape → Tally → List Visit → Judged Tally
+run table shapes t [] = fine t
+run table shapes t (v ∷ vs) = unless (isTooMany table t v) 18 (v .name .start) (run table shapes (tallied table shapes t v) vs)
+
+-- a path in cells: three for each step, its name's start and end, and its index and one more, or 0
+abbrev pub stepOf : Name → ℕ → List ℕ
+stepOf name index = name .start ∷ name .end ∷ index ∷ []
+
+unfoldable pub stepCells : List PathStep → List ℕ
+stepCells [] = []
+stepCells (s ∷ path) = stepOf (s .name) (indexCode (s .index)) ++ stepCells path
+
+-- a register in the log: its address, cut at the cap, its type, the length of its path, and its path
+abbrev pub logWidth : ℕ
+logWidth = 27
+
+unfoldable pub logRow : Visit → List ℕ
+logRow v = cut (v .address) ∷ v .type ∷ length (v .path) ∷ padded 24 (stepCells (v .path))
+
+-- the registers of these elements, logged from the row `n` on
+unfoldable pub logged : List Definition → List ℕ → ℕ → List Visit → List ℕ
+logged table log n [] = log
+logged table log n (v ∷ vs) = if isRegisterVisit table v then logged table (written log (n * logWidth) (logRow v)) (suc n) vs else logged table log n vs

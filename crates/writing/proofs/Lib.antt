@@ -1,0 +1,4 @@
+pub mod Cells
+pub mod Runs
+pub mod Paths
+pub mod Tables
