@@ -90,9 +90,10 @@ fn group_shape(
             InstanceReading::Done(instance, _) => {
                 let shape = shape_at(shapes, table::row_in(entry));
                 let laid = layout::lay(extent.mode, alignment, shape, instance, end);
-                end = laid.end;
-                highest = later_of(highest, end);
+                let past = laid.end;
+                highest = later_of(highest, past);
                 access = offsets::larger_of(access, shape.access);
+                end = past;
                 i += 1;
             }
             InstanceReading::Stop(_) => {
