@@ -1,0 +1,113 @@
+#!/usr/bin/env python3
+"""How long the program `rdlc` takes, and how much stack it needs: makes texts, runs target/bin/rdlc on each, and prints a table.
+docs/PERFORMANCE.md has one such table and what it says.
+
+    rt check rdlc
+    python3 tests/measure_rdlc.py
+
+The time is the processor's, user and system, of the whole program; the shortest of nine runs counts. The stack is the smallest limit
+(`ulimit -s`, to 4 KiB) under which the program gives the same answer. Labels as arguments choose the texts.
+"""
+import pathlib
+import resource
+import subprocess
+import sys
+
+import measure_rules
+
+PROGRAM = pathlib.Path(__file__).resolve().parent.parent / "target" / "bin" / "rdlc"
+ROOM = 65535
+RUNS = 9
+
+REG = "reg { field {} f; }"
+
+
+def single(count):
+    """So many registers, declared one by one."""
+    names = ", ".join(f"a{number}" for number in range(count))
+    return f"addrmap m {{ reg t {{ field {{}} f; }}; t {names}; }};"
+
+
+def filled(before, behind, filler):
+    """The text with a comment in its middle that fills it up."""
+    return before + "/*" + filler * (ROOM - len(before) - len(behind) - 4) + "*/" + behind
+
+
+def commented_outside():
+    """A comment before the instance of a regfile that is an array of 1,024 elements."""
+    return filled(f"addrmap m {{ regfile {{ {REG} a; ", "} b[1024]; };", "x")
+
+
+def commented_inside():
+    """A comment inside the instance that 1,024 elements of a regfile repeat: between its name and its end."""
+    return filled(f"addrmap m {{ regfile {{ {REG} a ", "; } b[1024]; };", "x")
+
+
+def nested(comment=""):
+    """Seven levels of regfiles, each of two elements, and eight registers in the lowest: 1,024 registers, eight instances deep."""
+    text = f"reg t {{ field {{}} f; }}; regfile r0 {{ t {', '.join(f'a{n} {comment}' for n in range(8))}; }}; "
+    for level in range(6):
+        text += f"regfile r{level + 1} {{ r{level} b {comment} [2]; }}; "
+    return text + f"addrmap m {{ r6 b {comment} [2]; }};"
+
+
+def nested_comments():
+    """The same with a comment inside each instance."""
+    return nested("/*" + "x" * 4300 + "*/")
+
+
+TEXTS = {
+    "heron": lambda: (PROGRAM.parent.parent.parent / "examples" / "heron.rdl").read_text(),
+    "ordinary": measure_rules.ordinary,
+    "single": lambda: single(1000),
+    "array": lambda: f"addrmap m {{ {REG} a[1024]; }};",
+    "arrays": lambda: f"addrmap m {{ regfile {{ {REG} a[32]; }} b[32]; }};",
+    "nested": nested,
+    "comment before": commented_outside,
+    "comment inside": commented_inside,
+    "nested comments": nested_comments,
+    "names": lambda: single(8000),
+}
+# those of the rules stage that take long there
+TEXTS.update({label: make for label, _, make in measure_rules.TEXTS if label in ("b2", "c2", "c3", "d", "e2", "g")})
+
+
+def run(text, limit=None):
+    command = [str(PROGRAM)]
+    if limit:
+        command = ["bash", "-c", f"ulimit -s {limit}; exec {PROGRAM}"]
+    before = resource.getrusage(resource.RUSAGE_CHILDREN)
+    done = subprocess.run(command, input=text.encode(), stdout=subprocess.PIPE, stderr=subprocess.DEVNULL, check=False)
+    after = resource.getrusage(resource.RUSAGE_CHILDREN)
+    seconds = after.ru_utime + after.ru_stime - before.ru_utime - before.ru_stime
+    return done.stdout, done.returncode, seconds
+
+
+def least_stack(text, answer):
+    """The smallest limit in KiB that gives this answer."""
+    low, high = 4, 8192
+    while high - low > 4:
+        middle = (low + high) // 8 * 4
+        out, code, _ = run(text, middle)
+        if code == 0 and out == answer:
+            high = middle
+        else:
+            low = middle
+    return high
+
+
+def main():
+    chosen = sys.argv[1:] or list(TEXTS)
+    print("| text | bytes | ms | stack, KiB | answer |")
+    print("|---|---|---|---|---|")
+    for label in chosen:
+        text = TEXTS[label]()
+        answer, _, _ = run(text)
+        best = min(run(text)[2] for _ in range(RUNS))
+        first = answer.split(b"\n")[0].decode()
+        shown = first if first.startswith("refused") else f"{answer.count(b'reg=')} registers"
+        print(f"| {label} | {len(text):,} | {best * 1000:.1f} | {least_stack(text, answer):,} | {shown} |", flush=True)
+
+
+if __name__ == "__main__":
+    main()
