@@ -56,12 +56,6 @@ stands-cell {t} {at = at} zero (stands-more e s) h = ap (cellOf t) (add-zero at)
 stands-cell {t} {at = at} (suc k) (stands-more e s) h = let z : at + suc k ≡ suc at + k = omega arith in ap (cellOf t) z ∙ stands-cell k s (omega arith)
 
 -- so many cells, the others 0
-pub length-padded : (n : ℕ) (xs : List ℕ) → length (padded n xs) ≡ n
-unfolding padded
-length-padded zero xs = refl
-length-padded (suc n) [] = ap suc (length-padded n [])
-length-padded (suc n) (x ∷ xs) = ap suc (length-padded n xs)
-
 pub padded-past : (n k : ℕ) (xs : List ℕ) → length xs ≤ k → getD (padded n xs) k 0 ≡ 0
 unfolding padded
 padded-past zero k xs h = refl

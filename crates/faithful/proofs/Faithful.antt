@@ -11,7 +11,8 @@ use Rattle.rows.specs.declared.RegisterRow.{RegisterRow}
 use Rattle.rows.specs.Lawful.{isPathCell, areNames, areIndices, areSame, isPlaced, isRun, isPath, areFieldRows, isRegisterRow, areRows, areWhole, lawful}
 use Rattle.rows.specs.Reading.{nameAt, stepsFrom, fieldsFrom, entryIn, entriesFrom, rowsIn}
 use Rattle.faithful.specs.Sound.{SoundName, SoundEntry, SoundMap, All, all-none, all-more, fieldsIn}
-use Rattle.faithful.proofs.Cells.{Stands, same-stand, length-padded}
+use Rattle.rows.proofs.Padded.{length-padded}
+use Rattle.faithful.proofs.Cells.{Stands, same-stand}
 use Rattle.faithful.proofs.Names.{name-stands, name-read}
 use Rattle.faithful.proofs.Paths.{names-stand, indices-stand, steps-read}
 use Rattle.faithful.proofs.Fields.{fields-stand, fields-read}

@@ -13,7 +13,8 @@ use Rattle.rows.specs.Rows.{Field, nameCell, fieldCells, fieldRun, labelRun}
 use Rattle.rows.specs.Lawful.{fieldValues, fieldRow, isResetForm, isFieldRow, areFieldRows}
 use Rattle.rows.specs.Reading.{nameAt, fieldsFrom}
 use Rattle.faithful.specs.Sound.{SoundField, All, all-none, all-more}
-use Rattle.faithful.proofs.Cells.{Stands, stands-head, stands-cell, stands-at, stands-left, stands-right, length-padded}
+use Rattle.rows.proofs.Padded.{length-padded}
+use Rattle.faithful.proofs.Cells.{Stands, stands-head, stands-cell, stands-at, stands-left, stands-right}
 use Rattle.faithful.proofs.Names.{name-stands, name-read}
 
 -- a reset in two cells

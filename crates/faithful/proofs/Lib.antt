@@ -4,3 +4,4 @@ pub mod Paths
 pub mod Fields
 pub mod Tables
 pub mod Faithful
+pub mod Lists

@@ -14,7 +14,8 @@ use Rattle.rows.specs.Rows.{padded, nameCell}
 use Rattle.rows.specs.Lawful.{follows, allFollow, isName}
 use Rattle.rows.specs.Reading.{nameFrom, nameAt}
 use Rattle.faithful.specs.Sound.{SoundName, sound-name}
-use Rattle.faithful.proofs.Cells.{Stands, stands-head, stands-tail, stands-cell, length-padded, padded-past}
+use Rattle.rows.proofs.Padded.{length-padded}
+use Rattle.faithful.proofs.Cells.{Stands, stands-head, stands-tail, stands-cell, padded-past}
 
 -- a 0 is no byte of a name
 letter-zero : isLetter 0 ≡ false

@@ -13,7 +13,8 @@ use Rattle.rows.specs.Rows.{Step, padded, indexCode, indices, nameCell, nameCel
 use Rattle.rows.specs.Lawful.{isPathCell, areNames, isIndex, areIndices}
 use Rattle.rows.specs.Reading.{nameAt, indexFrom, stepsFrom}
 use Rattle.faithful.specs.Sound.{SoundIndex, no-index, index, SoundStep, All, all-none, all-more}
-use Rattle.faithful.proofs.Cells.{Stands, stands-head, stands-tail, stands-as, stands-left, stands-right, length-padded, padded-append, padded-none, zeros-stand}
+use Rattle.rows.proofs.Padded.{length-padded}
+use Rattle.faithful.proofs.Cells.{Stands, stands-head, stands-tail, stands-as, stands-left, stands-right, padded-append, padded-none, zeros-stand}
 use Rattle.faithful.proofs.Names.{name-stands, name-read}
 
 -- the cells of a path, the first and the others

@@ -9,7 +9,8 @@ use Rattle.rows.specs.Rows.{Entry, Map, Tables, padded, indices, nameCell, name
 use Rattle.rows.specs.declared.RegisterRow.{RegisterRow}
 use Rattle.rows.specs.Lawful.{registerRow}
 use Rattle.faithful.specs.Sound.{fieldsIn}
-use Rattle.faithful.proofs.Cells.{Stands, stands-head, stands-tail, stands-cell, stands-at, stands-left, stands-right, stands-whole, length-padded}
+use Rattle.rows.proofs.Padded.{length-padded}
+use Rattle.faithful.proofs.Cells.{Stands, stands-head, stands-tail, stands-cell, stands-at, stands-left, stands-right, stands-whole}
 use Rattle.faithful.proofs.Paths.{name-first, name-others}
 use Rattle.faithful.proofs.Fields.{length-fields, length-labels}
 

@@ -32,7 +32,7 @@ use Rattle.overlaps.proofs.Visits.{Sited, few-levels, all-sited}
 use Rattle.writing.specs.Entries.{entriesOf}
 use Rattle.compile.specs.Compiled.{mapOf, compiled}
 use Rattle.compile.proofs.Counts.{entries-counted, fields-among}
-use Rattle.lawful.proofs.Lists.{all-both, all-map, all-of}
+use Rattle.faithful.proofs.Lists.{all-both, all-map}
 use Rattle.lawful.proofs.Stages.{Accepting, accepting, not-many, not-misplaced}
 use Rattle.lawful.proofs.Steps.{Seen, visits-seen}
 use Rattle.lawful.proofs.Registers.{RegisterSeen, register-holds, entries-sound}
@@ -57,10 +57,10 @@ module _ (text : List ℕ) (m : Meaning) (s : SensibleMeaning m) (n : NamedMeani
   all-seen = visits-seen text (m .table) (mapShapes m) (modeOf (definitionOf (m .table) (m .map) .component)) (suc nestLimit) (m .map) 0 [] (s .table) (n .each) (s .low) all-none
 
   all-short : All Short (mapVisits m)
-  all-short = all-of (few-levels (m .table) 0 0 (mapVisits m) (not-many m e))
+  all-short = few-levels (m .table) 0 0 (mapVisits m) (not-many m e)
 
   all-placed : All (λ (v : Visit). isRegisterVisit (m .table) v ≡ true → Sited (mapShapes m) v) (mapVisits m)
-  all-placed = all-of (all-sited (m .table) (mapShapes m) (mapVisits m) (not-misplaced m e))
+  all-placed = all-sited (m .table) (mapShapes m) (mapVisits m) (not-misplaced m e)
 
   all-registers : All (RegisterSeen text (m .table) (modeOf (definitionOf (m .table) (m .map) .component))) (registersAmong (m .table) (mapVisits m))
   all-registers =

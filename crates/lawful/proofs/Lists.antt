@@ -6,19 +6,6 @@ use Prim.Native.Nat.{ℕ, suc}
 use native.Mathlib.Omega.{arith}
 use Rattle.chars.specs.Choice.{if_then_else_}
 use Rattle.faithful.specs.Sound.{All, all-none, all-more}
-use Rattle.overlaps.proofs.Visits as visits
-
-pub all-append : {A : Type 0} {P : A → Type 0} {xs ys : List A} → All P xs → All P ys → All P (xs ++ ys)
-all-append all-none b = b
-all-append (all-more p a) b = all-more p (all-append a b)
-
-pub all-map : {A : Type 0} {P Q : A → Type 0} {xs : List A} → ((x : A) → P x → Q x) → All P xs → All Q xs
-all-map f all-none = all-none
-all-map f (all-more {x = x} p a) = all-more (f x p) (all-map f a)
-
-pub all-both : {A : Type 0} {P Q : A → Type 0} {xs : List A} → All P xs → All Q xs → All (λ (x : A). P x × Q x) xs
-all-both all-none all-none = all-none
-all-both (all-more p a) (all-more q b) = all-more (p, q) (all-both a b)
 
 pub all-first : {A : Type 0} {P : A → Type 0} {x : A} {xs : List A} → All P (x ∷ xs) → P x
 all-first (all-more p a) = p
@@ -30,12 +17,6 @@ pub all-left : {A : Type 0} {P : A → Type 0} (xs ys : List A) → All P (xs ++
 all-left [] ys h = all-none
 all-left (x ∷ xs) ys h = all-more (all-first h) (all-left xs ys (all-rest h))
 
--- the same, said by crate overlaps
-pub all-of : {A : Type 0} {P : A → Type 0} {xs : List A} → visits.All P xs → All P xs
-all-of visits.all-none = all-none
-all-of (visits.all-more p a) = all-more p (all-of a)
-
--- tests
 pub or-left : (a b : Bool) → (a || b) ≡ false → a ≡ false
 or-left true b f = f
 or-left false b f = refl

@@ -24,7 +24,7 @@ use Rattle.faithful.specs.Sound.{SoundIndex, no-index, index, SoundStep, All, a
 use Rattle.named.specs.Named.{ChildNamed}
 use Rattle.map.specs.Visits.{PathStep, Visit, indexIn, isGroup, elementVisits, childVisits, ofGroup, visitsIn}
 use Rattle.writing.specs.Entries.{bytesIn, stepsOf}
-use Rattle.lawful.proofs.Lists.{all-append, all-map}
+use Rattle.faithful.proofs.Lists.{all-append, all-map}
 
 -- the names of all instances are sound
 abbrev pub Names : List ℕ → List Definition → Type 0

@@ -36,44 +36,11 @@ use Rattle.places.specs.declared.Place.{Place}
 use Rattle.places.specs.declared.Place.the-variants.{Root, Inside}
 use Rattle.rules.specs.Limits.{definitionLimit}
 use Rattle.rules.specs.Judge.{Known, State, opening, found, judgeInstances, judgeUse, judgeSetting, typeTwice, namePlace, Made, lastOf, closed, declared, judgeDefinition, judgeElem, judgeBody, Meaning, meaningOf, judgeFile, judge}
+use Rattle.sensible.proofs.Each.{Each, each-fault, each-fine, each-unless, each-found, each-of, each-onward, each-weaker, each-next}
 use Rattle.faithful.specs.Sound.{All, all-none, all-more}
 use Rattle.title.specs.Title.{nameOr, titleWith, titleOf}
 use Rattle.named.specs.Named.{IsNamed, ChildNamed}
 use Rattle.named.proofs.Readings.{InstanceNamed, MaybeNamed, ElemNamed, definition-named, instances-named, property-named, BodyNamed, close-named, more-named}
-
--- what holds of a result, if there is one
-data Each {A : Type 0} (P : A → Type 0) : Judged A → Type 0 where
-  each-fault : {n p : ℕ} → Each P (fault n p)
-  each-fine : {a : A} → P a → Each P (fine a)
-
-module _ {A : Type 0} (P : A → Type 0) where
-  each-unless : (b : Bool) (n p : ℕ) {j : Judged A} → (b ≡ false → Each P j) → Each P (unless b n p j)
-  unfolding unless
-  each-unless true n p h = each-fault
-  each-unless false n p h = h refl
-
-  each-found : (f : Fault) {j : Judged A} → Each P j → Each P (found f j)
-  each-found Sound h = h
-  each-found (Broken n p) h = each-fault
-
-  each-of : {j : Judged A} {a : A} → Each P j → j ≡ fine a → P a
-  each-of each-fault e = absurd (let z : _≡_ {A = ℕ} 0 1 = cc in omega arith)
-  each-of {a = a} (each-fine {a = b} h) e = let z : b ≡ a = cc in rw z at h
-
-each-onward : {A B : Type 0} (P : A → Type 0) (Q : B → Type 0) {j : Judged A} (k : A → Judged B) → Each P j → ((a : A) → P a → Each Q (k a)) → Each Q (onward j k)
-unfolding onward
-each-onward P Q k each-fault f = each-fault
-each-onward P Q k (each-fine {a = a} h) f = f a h
-
-each-weaker : {A : Type 0} (P Q : A → Type 0) {j : Judged A} → ((a : A) → P a → Q a) → Each P j → Each Q j
-each-weaker P Q f each-fault = each-fault
-each-weaker P Q f (each-fine {a = a} h) = each-fine (f a h)
-
--- where nothing is asked of the first result
-each-next : {A B : Type 0} (Q : B → Type 0) (j : Judged A) (k : A → Judged B) → ((a : A) → Each Q (k a)) → Each Q (onward j k)
-unfolding onward
-each-next Q (fault n p) k f = each-fault
-each-next Q (fine a) k f = f a
 
 all-last : {A : Type 0} {P : A → Type 0} {xs : List A} (x : A) → All P xs → P x → All P (xs ++ (x ∷ []))
 all-last x all-none h = all-more h all-none
@@ -112,7 +79,7 @@ module _ (text : List ℕ) where
   instances-held b k n (i ∷ is) {held} (all-more x xs) h =
       each-unless ChildrenNamed (isAmong text (i .name) (namesOf held)) 6 (i .name .start) (λ _.
       each-unless ChildrenNamed (not (mayHold b k)) 10 (i .name .start) (λ _.
-      each-found ChildrenNamed (instanceFault k i) (instances-held b k n is xs (all-last (record { instance = i; type = n }) h x))))
+      each-found ChildrenNamed (instanceFault k i) (λ _. instances-held b k n is xs (all-last (record { instance = i; type = n }) h x))))
 
   use-stands : (b : Place) (n : Name) (is : List Instance) (s : State) (g : Given) → All (InstanceNamed text) is → Stands s → Each Stands (judgeUse text b n is s g)
   unfolding judgeUse

@@ -23,7 +23,8 @@ use Rattle.walk.specs.Runs.{stepCells}
 use Rattle.walk.specs.Walks.{LogRow, visitAt, noVisit, elementsOf, registersOf}
 use Rattle.overlaps.specs.declared.Plot.{Plot}
 use Rattle.overlaps.specs.Charted.{Charted, plotIn, plotsOverlap, PlotFits}
-use Rattle.overlaps.proofs.Visits.{all-at, padded-cell, seen-length, seen-place, register-size, register-whole, RegisterSeen, registers-seen}
+use Rattle.faithful.proofs.Lists.{all-at}
+use Rattle.overlaps.proofs.Visits.{padded-cell, seen-length, seen-place, register-size, register-whole, RegisterSeen, registers-seen}
 use Rattle.overlaps.proofs.Overlaps.{one-register, one-none, registers-decide, from-end, from-hit, from-on}
 
 -- a register of the log, from its cells

@@ -42,34 +42,14 @@ use Rattle.shapes.specs.Shapes.{GroupOf, of-regfile, of-map, allShapes}
 use Rattle.shapes.proofs.Rows.{RowFits, width-range}
 use Rattle.shapes.proofs.Laws.{ready-is-row, ready-row, ready-block}
 use Rattle.shapes.proofs.Children.{ReadyChild, ReadyChildren, ready-none, ready-more, ready-children}
+use Rattle.faithful.specs.Sound.{All, all-none, all-more}
+use Rattle.faithful.proofs.Lists.{all-append, all-map, all-both, all-at}
 use Rattle.rows.specs.Limits.{nestLimit, registerLimit, fieldLimit, addressLimit}
 use Rattle.rows.specs.Rows.{padded, indexCode}
 use Rattle.map.specs.Visits.{PathStep, Visit, indexIn, isGroup, elementVisits, childVisits, ofGroup, visitsIn}
 use Rattle.map.specs.Whole.{isRegister, isRegisterVisit, tooMany, tooClose, misplaced, registersAmong}
 use Rattle.walk.specs.Runs.{stepCells}
 use Rattle.walk.specs.Walks.{elementsOf, registersOf, surveyFault}
-
--- each of a list
-pub data All {A : Type 0} (P : A → Type 0) : List A → Type 0 where
-  all-none : All P []
-  all-more : {x : A} {xs : List A} → P x → All P xs → All P (x ∷ xs)
-
-pub all-append : {A : Type 0} {P : A → Type 0} {xs ys : List A} → All P xs → All P ys → All P (xs ++ ys)
-all-append all-none b = b
-all-append (all-more p a) b = all-more p (all-append a b)
-
-pub all-map : {A : Type 0} {P Q : A → Type 0} {xs : List A} → ((x : A) → P x → Q x) → All P xs → All Q xs
-all-map f all-none = all-none
-all-map f (all-more {x = x} p a) = all-more (f x p) (all-map f a)
-
-pub all-both : {A : Type 0} {P Q : A → Type 0} {xs : List A} → All P xs → All Q xs → All (λ (x : A). P x × Q x) xs
-all-both all-none all-none = all-none
-all-both (all-more p a) (all-more q b) = all-more (p, q) (all-both a b)
-
-pub all-at : {A : Type 0} {P : A → Type 0} {xs : List A} (d : A) (i : ℕ) → All P xs → i < length xs → P (getD xs i d)
-all-at d i all-none h = absurd (omega arith)
-all-at d zero (all-more p a) h = p
-all-at d (suc i) (all-more p a) h = all-at d i a (omega (arith, h))
 
 -- an instance in the body of a row, and the cell that holds it
 pub record Held (text t : List ℕ) (e : Extent) (c : Child) : Type 0 where

@@ -21,7 +21,7 @@ unfolding registerRow
 register-made t i p0 p1 p2 p3 p4 p5 = rw (p0, p1, p2, p3, p4, p5)
 
 -- a width is 8, 16, 32 or 64
-width-bounds : (n : ℕ) → isWidth n ≡ true → (8 ≤ n) × (n ≤ 64)
+pub width-bounds : (n : ℕ) → isWidth n ≡ true → (8 ≤ n) × (n ≤ 64)
 unfolding isWidth
 width-bounds n e = by8 (eqb n 8) refl e
   where

@@ -48,31 +48,8 @@ use Rattle.rules.specs.Judge.{Known as Facts, State, opening, found, judgeInsta
 use Rattle.rules.proofs.Instances.{length-more}
 use Rattle.rules.proofs.Closing.{getD-before, getD-last, kind-of-component}
 use Rattle.sensible.specs.Sensible.{ChildrenFit, children-none, children-more, Sensible, sensible-none, sensible-more, SensibleMeaning}
+use Rattle.sensible.proofs.Each.{Each, each-fault, each-fine, each-unless, each-found, each-of, each-onward}
 use Rattle.sensible.proofs.Ranges.{SettingsFit, no-settings-fit, nearest-fits, inSlot, assign-fits, setting-range, component-fits}
-
--- what holds of a result, if there is one
-data Each {A : Type 0} (P : A → Type 0) : Judged A → Type 0 where
-  each-fault : {n p : ℕ} → Each P (fault n p)
-  each-fine : {a : A} → P a → Each P (fine a)
-
-module _ {A : Type 0} (P : A → Type 0) where
-  each-unless : (b : Bool) (n p : ℕ) {j : Judged A} → (b ≡ false → Each P j) → Each P (unless b n p j)
-  unfolding unless
-  each-unless true n p h = each-fault
-  each-unless false n p h = h refl
-
-  each-found : (f : Fault) {j : Judged A} → (f ≡ Sound → Each P j) → Each P (found f j)
-  each-found Sound h = h refl
-  each-found (Broken n p) h = each-fault
-
-  each-of : {j : Judged A} {a : A} → Each P j → j ≡ fine a → P a
-  each-of each-fault e = absurd (let z : _≡_ {A = ℕ} 0 1 = cc in omega arith)
-  each-of {a = a} (each-fine {a = b} h) e = let z : b ≡ a = cc in rw z at h
-
-each-onward : {A B : Type 0} (P : A → Type 0) (Q : B → Type 0) {j : Judged A} (k : A → Judged B) → Each P j → ((a : A) → P a → Each Q (k a)) → Each Q (onward j k)
-unfolding onward
-each-onward P Q k each-fault f = each-fault
-each-onward P Q k (each-fine {a = a} h) f = f a h
 
 -- definitions behind those that there are
 record Extends (table later : List Definition) : Type 0 where

@@ -14,12 +14,6 @@ use Rattle.rows.specs.Rows.{indexCode, padded}
 use Rattle.walk.specs.Runs.{stepOf, stepCells}
 use Rattle.walk.specs.Walks.{Trails}
 
-pub padded-length : (n : ℕ) (xs : List ℕ) → length (padded n xs) ≡ n
-unfolding padded
-padded-length zero xs = refl
-padded-length (suc n) [] = ap suc (padded-length n [])
-padded-length (suc n) (x ∷ xs) = ap suc (padded-length n xs)
-
 set-padded : (n : ℕ) (xs : List ℕ) (y : ℕ) → length xs < n → set (padded n xs) (length xs) y ≡ padded n (xs ++ (y ∷ []))
 unfolding padded
 set-padded zero xs y h = absurd (omega arith)

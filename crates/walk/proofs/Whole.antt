@@ -24,7 +24,7 @@ use Rattle.walk.specs.Runs.{registersWith, fieldsWith, isTooMany, tallie
 use Rattle.map.specs.Whole.{registersAmong, fieldsAmong}
 use Rattle.walk.specs.Walks.{LogRow, visitAt, Logs}
 use Rattle.walk.proofs.Runs.{run-step, run-none}
-use Rattle.walk.proofs.Trails.{padded-length}
+use Rattle.rows.proofs.Padded.{length-padded}
 use Rattle.walk.proofs.Visited.{first-none}
 
 -- the first of three faults
@@ -103,7 +103,7 @@ run-sums table shapes t (v ∷ vs) e =
 -- the log
 row-length : (v : Visit) → length (logRow v) ≡ logWidth
 unfolding logRow
-row-length v = omega (arith, padded-length 24 (stepCells (v .path)))
+row-length v = omega (arith, length-padded 24 (stepCells (v .path)))
 
 logged-below : (table : List Definition) (log : List ℕ) (n : ℕ) (vs : List Visit) (j : ℕ) → j < n * logWidth → cellOf (logged table log n vs) j ≡ cellOf log j
 unfolding logged

@@ -10,6 +10,7 @@ use Rattle.table.specs.Cells.{cellOf, componentIn, flagOf, numberOf, written}
 use Rattle.components.specs.declared.FieldAt.{FieldAt}
 use Rattle.components.specs.declared.Register.{Register}
 use Rattle.components.specs.declared.Component.{Component}
+use Rattle.rows.proofs.Padded.{length-padded}
 use Rattle.rows.specs.Rows.{padded, nameCell, fieldCells}
 use Rattle.writing.specs.Entries.{widthsOf}
 use Rattle.writing.specs.Writes.{namesIn, indicesIn, numbersIn}
@@ -21,13 +22,6 @@ written-append t i [] ys = let n : i + 0 ≡ i = omega arith in rw n
 written-append t i (x ∷ xs) ys =
     let n : i + suc (length xs) ≡ i + 1 + length xs = omega arith in
     rw n (written-append (set t i x) (i + 1) xs ys)
-
--- so many cells
-pub padded-length : (n : ℕ) (xs : List ℕ) → length (padded n xs) ≡ n
-unfolding padded
-padded-length zero xs = refl
-padded-length (suc n) [] = ap suc (padded-length n [])
-padded-length (suc n) (x ∷ xs) = ap suc (padded-length n xs)
 
 -- the first of those from the k-th on
 pub padded-next : (n k : ℕ) (xs : List ℕ) → padded (suc n) (drop k xs) ≡ getD xs k 0 ∷ padded n (drop (suc k) xs)
@@ -95,7 +89,7 @@ module _ (text log : List ℕ) (steps at : ℕ) where
         let q : namesIn text log (steps + 3 * k) (8 - k) ≡ nameCell name ++ others =
         ap (namesIn text log (steps + 3 * k)) (left-more 8 k h) ∙ ap (λ (n : ℕ). nameCell (bytesOf text (cellOf log (steps + 3 * k)) (cellOf log (steps + 3 * k + 1))) ++ namesIn text log n (8 - (k + 1))) l
         ∙ ap (λ (s : List ℕ). nameCell s ++ others) (sym here) in
-        let n : at + k * 32 + length (nameCell name) ≡ at + (k + 1) * 32 = omega (arith, padded-length 32 name) in
+        let n : at + k * 32 + length (nameCell name) ≡ at + (k + 1) * 32 = omega (arith, length-padded 32 name) in
         ap (λ (s : List ℕ). written s (at + (k + 1) * 32) others) w
         ∙ ap (λ (n : ℕ). written (written t (at + k * 32) (nameCell name)) n others) (sym n)
         ∙ sym (written-append t (at + k * 32) (nameCell name) others) ∙ ap (written t (at + k * 32)) (sym q) ∙ left
@@ -128,7 +122,7 @@ module _ (log : List ℕ) (steps at : ℕ) where
 pub path-put : (t : List ℕ) (at : ℕ) (name others : List ℕ) {label u v : List ℕ} → label ≡ name → u ≡ written t at (nameCell label) → v ≡ written u (at + 32) others
     → v ≡ written t at (nameCell name ++ others)
 path-put t at name others d e f =
-    let n : at + length (nameCell name) ≡ at + 32 = omega (arith, padded-length 32 name) in
+    let n : at + length (nameCell name) ≡ at + 32 = omega (arith, length-padded 32 name) in
     f ∙ ap (λ (s : List ℕ). written s (at + 32) others) (e ∙ ap (λ (x : List ℕ). written t at (nameCell x)) d)
     ∙ ap (λ (n : ℕ). written (written t at (nameCell name)) n others) (sym n) ∙ sym (written-append t at (nameCell name) others)
 

@@ -16,7 +16,7 @@ use Rattle.walk.specs.Walks.{LogRow}
 use Rattle.overlaps.proofs.Visits.{padded-cell}
 use Rattle.writing.specs.Entries.{bytesIn, stepsOf, widthsOf, entryOf}
 use Rattle.writing.specs.Writes.{namesIn, indicesIn, numbersIn}
-use Rattle.writing.proofs.Cells.{padded-length}
+use Rattle.rows.proofs.Padded.{length-padded}
 
 -- cells of which the first are given
 pub padded-front : (xs : List ℕ) (m : ℕ) (ys : List ℕ) {n : ℕ} → n ≡ length xs + m → padded n (xs ++ ys) ≡ xs ++ padded m ys
@@ -34,7 +34,7 @@ padded-none (suc n) m {k} e =
     ap (λ (j : ℕ). padded j []) z ∙ ap (λ (zs : List ℕ). 0 ∷ zs) (padded-none n m refl)
 
 padded-name : (name : List ℕ) (m : ℕ) (ys : List ℕ) {n : ℕ} → n ≡ 32 + m → padded n (nameCell name ++ ys) ≡ nameCell name ++ padded m ys
-padded-name name m ys e = padded-front (nameCell name) m ys (omega (arith, e, padded-length 32 name))
+padded-name name m ys e = padded-front (nameCell name) m ys (omega (arith, e, length-padded 32 name))
 
 -- the cells of `n` steps from an index on are those of a path
 record Steps (log : List ℕ) (at n : ℕ) (path : List PathStep) : Type 0 where

@@ -33,7 +33,8 @@ use Rattle.shapes.proofs.Rows.{RowFits}
 use Rattle.shapes.proofs.Laws.{ready-is-row, ready-row, ready-block, ready-count, ready-within, Ahead, ahead-of, none-left}
 use Rattle.writing.specs.Entries.{bytesIn, withField, rowFields}
 use Rattle.writing.specs.Writes.{RunWrites, fieldsIn}
-use Rattle.writing.proofs.Cells.{written-append, padded-length}
+use Rattle.rows.proofs.Padded.{length-padded}
+use Rattle.writing.proofs.Cells.{written-append}
 
 -- the rows of fields behind those of others
 cells-length : (f : FieldAt) → length (fieldCells f) ≡ 8
@@ -48,7 +49,7 @@ fields-length (f ∷ fs) = length-append (fieldCells (f .at)) (fieldRun fs) ∙ 
 pub labels-length : (fs : List Field) → length (labelRun fs) ≡ length fs * 32
 unfolding labelRun
 labels-length [] = refl
-labels-length (f ∷ fs) = length-append (nameCell (f .name)) (labelRun fs) ∙ omega (arith, labels-length fs, padded-length 32 (f .name))
+labels-length (f ∷ fs) = length-append (nameCell (f .name)) (labelRun fs) ∙ omega (arith, labels-length fs, length-padded 32 (f .name))
 
 pub fields-append : (fs gs : List Field) → fieldRun (fs ++ gs) ≡ fieldRun fs ++ fieldRun gs
 unfolding fieldRun

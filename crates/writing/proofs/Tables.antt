@@ -31,10 +31,12 @@ use Rattle.map.specs.Visits.{Visit}
 use Rattle.map.specs.Whole.{isRegisterVisit, tooMany, tooClose, misplaced, registersAmong}
 use Rattle.walk.specs.Walks.{LogRow, noVisit, visitAt, elementsOf, registersOf}
 use Rattle.overlaps.specs.Charted.{Charted}
-use Rattle.overlaps.proofs.Visits.{RegisterSeen, registers-seen, all-at}
+use Rattle.faithful.proofs.Lists.{all-at}
+use Rattle.overlaps.proofs.Visits.{RegisterSeen, registers-seen}
 use Rattle.writing.specs.Entries.{bytesIn, withField, rowFields, entryOf, entriesOf}
 use Rattle.writing.specs.Writes.{namesIn, numbersIn, RunWrites, fieldsIn, entriesIn}
-use Rattle.writing.proofs.Cells.{written-append, padded-length, one-more}
+use Rattle.rows.proofs.Padded.{length-padded}
+use Rattle.writing.proofs.Cells.{written-append, one-more}
 use Rattle.writing.proofs.Runs.{fields-length, labels-length, run-fields, run-labels}
 use Rattle.writing.proofs.Paths.{log-names, log-numbers}
 
@@ -155,11 +157,11 @@ module _ (x : Entry) (xs : List Entry) where
 
   register-length : (first : ℕ) → length (registerCells first x) ≡ 14
   unfolding registerCells
-  register-length first = omega (arith, padded-length 8 (indices (x .path)))
+  register-length first = omega (arith, length-padded 8 (indices (x .path)))
 
   path-length : (name : List ℕ) → length (pathCells name x) ≡ 288
   unfolding pathCells
-  path-length name = padded-length 288 (nameCell name ++ nameCells (x .path))
+  path-length name = length-padded 288 (nameCell name ++ nameCells (x .path))
 
 module _ (t : List ℕ) (i : ℕ) where
   registers-none : (first : ℕ) → written t i (registerTable first []) ≡ t
