@@ -138,7 +138,7 @@ pub fn kind_of(component: Component) -> Kind
     }
 }
 
-fn is_readable(field: FieldType) -> bool
+pub fn is_readable(field: FieldType) -> bool
     ensures { λ r. ⌜ r ≡ isReadable field ⌝ }
 {
     if field.sw == settings::access_code(Access::R) {
@@ -147,7 +147,7 @@ fn is_readable(field: FieldType) -> bool
     field.sw == settings::access_code(Access::Rw)
 }
 
-fn is_writable(field: FieldType) -> bool
+pub fn is_writable(field: FieldType) -> bool
     ensures { λ r. ⌜ r ≡ isWritable field ⌝ }
 {
     if field.sw == settings::access_code(Access::W) {
@@ -239,7 +239,7 @@ pub fn start_of(instance: Instance) -> Start
 }
 
 // Whether a number needs more bits.
-fn needs_more(value: u64, bits: u64) -> bool
+pub fn needs_more(value: u64, bits: u64) -> bool
     ensures { λ r. ⌜ r ≡ leb (2 ^ bits) value ⌝ }
 {
     if bits >= 64 {

@@ -1,0 +1,222 @@
+-- Laws of the answers: one for each way that the code goes, and what an access that is not refused says of the rows and the store.
+use mathlib.Core.Bool.{Bool, true, false, not}
+use mathlib.Core.Path.{_≡_, refl, sym, ap, ap₂, _∙_}
+use mathlib.Core.List.{List}
+use Prim.Native.Nat.{ℕ, zero, suc, _/_, _<_, _≤_}
+use native.Mathlib.Omega.{arith}
+use lib.ListN.{length}
+use borrow.Author.Tests.{lt-ltb, le-ltb, ltb-false}
+use Rattle.chars.specs.Choice.{if_then_else_}
+use Rattle.chars.proofs.Laws.{and-left}
+use Rattle.settings.specs.Settings.{isWidth}
+use Rattle.components.specs.declared.Offset.{Offset}
+use Rattle.rows.specs.Rows.{Tables, tables}
+use Rattle.rows.specs.Lawful.{lawful}
+use Rattle.rows.proofs.Registers.{width-bounds}
+use Rattle.model.specs.declared.Access.{Access}
+use Rattle.model.specs.declared.Access.the-variants.{Read, Write}
+use Rattle.model.specs.declared.Answer.the-variants as answer
+use Rattle.model.specs.Model.{fits, addressOf, widthOf, wellFormed}
+use Rattle.model.specs.Repeats.{repeats}
+use Rattle.stored.proofs.Tests.{failed, passed}
+use Rattle.access.specs.Stored.{storedFields}
+use Rattle.access.specs.declared.Restored.the-variants as restored
+use Rattle.access.specs.declared.Retried.the-variants as retried
+use Rattle.access.specs.Perform.{isShort, isReached, refusalOf, answerOf, storeAfter, resetRefusal, resetAnswer, storeReset, retryRefusal, retryOf}
+use Rattle.access.specs.Steps.{Ready, Stocked, AllFields, steppedRows, joinedRows, joinedWord, reachedRows, fittingRows, resetRows, repeatsRows}
+use Rattle.access.proofs.Facts.{rows-few, fields-few, all-fields, rows-ready, rows-stocked}
+use Rattle.access.proofs.Fields.{stored-count, stored-reached, stored-repeat}
+use Rattle.access.proofs.Stores.{stored-stepped, stored-fitting, stored-reset}
+use Rattle.access.proofs.Words.{stored-word}
+
+-- what the tests say that came before
+formed-width : (x : Access) → wellFormed x ≡ true → isWidth (widthOf x) ≡ true
+formed-width (Read a w) e = e
+formed-width (Write a w v) e = and-left (isWidth w) _ e
+
+module _ (x : Access) {a : Bool} (e : a ≡ wellFormed x) (y : not a ≡ false) where
+  pub least-width : {w : ℕ} → w ≡ widthOf x → 8 ≤ w
+  least-width q = rw q (width-bounds (widthOf x) (formed-width x (passed e y)) .0)
+
+  pub formed-ready : (registers paths fields labels : List ℕ) {b : Bool} → b ≡ lawful (tables registers paths fields labels) → not b ≡ false → Ready (widthOf x) registers fields
+  formed-ready registers paths fields labels f z = rows-ready (tables registers paths fields labels) (passed f z) (widthOf x) (formed-width x (passed e y))
+
+module _ (registers paths fields labels : List ℕ) {b : Bool} (f : b ≡ lawful (tables registers paths fields labels)) (z : not b ≡ false) where
+  pub few-rows : length registers / 14 ≤ 1024
+  few-rows = rows-few (tables registers paths fields labels) (passed f z)
+
+  pub few-fields : length fields / 8 ≤ 4096
+  few-fields = fields-few (tables registers paths fields labels) (passed f z)
+
+  pub sound-fields : AllFields fields
+  sound-fields = all-fields (tables registers paths fields labels) (passed f z)
+
+module _ (t : Tables) (s : List ℕ) (q : lawful t ≡ true) where
+  is-short : length s < length (t .fields) / 8 → isShort t s ≡ true
+  is-short h = lt-ltb (length s) (length (storedFields t)) (omega (arith, stored-count t q))
+
+  is-long : length (t .fields) / 8 ≤ length s → isShort t s ≡ false
+  is-long h = le-ltb (length s) (length (storedFields t)) (omega (arith, stored-count t q))
+
+reached-at : (t : Tables) (x : Access) {a : Offset} {w : ℕ} {r : Bool} → lawful t ≡ true → a ≡ addressOf x → w ≡ widthOf x
+    → r ≡ reachedRows a w (t .registers) 0 (length (t .registers) / 14) → r ≡ isReached t x
+reached-at t x q k l e = e ∙ ap₂ (λ (o : Offset) (n : ℕ). reachedRows o n (t .registers) 0 (length (t .registers) / 14)) k l ∙ stored-reached (addressOf x) (widthOf x) t q
+
+-- ---- the first refusal
+
+module _ (t : Tables) (s : List ℕ) (x : Access) {a : Bool} (e : a ≡ wellFormed x) where
+  pub refusal-form : not a ≡ true → 23 ≡ refusalOf t s x
+  unfolding refusalOf
+  refusal-form y = rw (failed e y)
+
+  module _ {b : Bool} (y : not a ≡ false) (f : b ≡ lawful t) where
+    pub refusal-rows : not b ≡ true → 24 ≡ refusalOf t s x
+    unfolding refusalOf
+    refusal-rows z = rw (passed e y, failed f z)
+
+    module _ (z : not b ≡ false) where
+      pub refusal-short : length s < length (t .fields) / 8 → 22 ≡ refusalOf t s x
+      unfolding refusalOf
+      refusal-short h = rw (passed e y, passed f z, is-short t s (passed f z) h)
+
+      module _ {c : Bool} (h : length (t .fields) / 8 ≤ length s) (g : c ≡ fittingRows (t .fields) s 0 (length (t .fields) / 8)) where
+        fits-all : c ≡ fits (storedFields t) s
+        fits-all = g ∙ stored-fitting t (passed f z) s h
+
+        pub refusal-store : not c ≡ true → 24 ≡ refusalOf t s x
+        unfolding refusalOf
+        refusal-store u = rw (passed e y, passed f z, is-long t s (passed f z) h, failed fits-all u)
+
+        module _ {p : Offset} {w : ℕ} {d : Bool} (u : not c ≡ false) (k : p ≡ addressOf x) (l : w ≡ widthOf x)
+            (m : d ≡ reachedRows p w (t .registers) 0 (length (t .registers) / 14)) where
+          pub refusal-reach : not d ≡ true → 25 ≡ refusalOf t s x
+          unfolding refusalOf
+          refusal-reach v = rw (passed e y, passed f z, is-long t s (passed f z) h, passed fits-all u, failed (reached-at t x (passed f z) k l m) v)
+
+          pub refusal-none : not d ≡ false → 0 ≡ refusalOf t s x
+          unfolding refusalOf
+          refusal-none v = rw (passed e y, passed f z, is-long t s (passed f z) h, passed fits-all u, passed (reached-at t x (passed f z) k l m) v)
+
+-- ---- an access
+
+-- the word of a read
+module _ {x : Access} {a : Offset} {w : ℕ} (registers fields : List ℕ) (e : x ≡ Read a w) where
+  pub read-ready : Ready (widthOf x) registers fields → Ready w registers fields
+  read-ready r = rw e at r
+
+  pub read-word : (s : List ℕ) {n : ℕ} → n ≡ joinedRows a w registers fields 0 (length registers / 14) s 0 → n ≡ joinedWord x registers fields s
+  read-word s f = rw e f
+
+-- the first refusal of the five tests, or 0
+abbrev firstOf : Bool → Bool → Bool → Bool → Bool → ℕ
+firstOf a b c d e = if not a then 23 else if not b then 24 else if c then 22 else if not d then 24 else if not e then 25 else 0
+
+module _ (t : Tables) (s : List ℕ) (x : Access) where
+  pub refused-answer : (n : ℕ) → n ≡ refusalOf t s x → (n ≡ 0 → ⊥) → answer.Refused n ≡ answerOf t s x
+  unfolding answerOf
+  refused-answer zero e f = absurd (f refl)
+  refused-answer (suc n) e f = rw (← e)
+
+  pub refused-store : (n : ℕ) → n ≡ refusalOf t s x → (n ≡ 0 → ⊥) → s ≡ storeAfter t s x
+  unfolding storeAfter
+  refused-store zero e f = absurd (f refl)
+  refused-store (suc n) e f = rw (← e)
+
+  -- what no refusal says of the access, the rows and the store
+  record Granted : Type 0 where
+    form : wellFormed x ≡ true
+    rows : lawful t ≡ true
+    room : isShort t s ≡ false
+
+  granted : (a b c d e : Bool) → wellFormed x ≡ a → lawful t ≡ b → isShort t s ≡ c → firstOf a b c d e ≡ 0 → Granted
+  granted true true false d e p q r z = record { form = p; rows = q; room = r }
+  granted false b c d e p q r z = absurd (omega arith)
+  granted true false c d e p q r z = absurd (omega arith)
+  granted true true true d e p q r z = absurd (omega arith)
+
+  module _ {n : ℕ} (e : n ≡ refusalOf t s x) (z : n ≡ 0) where
+    is-granted : Granted
+    unfolding refusalOf
+    is-granted = granted (wellFormed x) (lawful t) (isShort t s) (fits (storedFields t) s) (isReached t x) refl refl refl (sym e ∙ z)
+
+    has-room : length (t .fields) / 8 ≤ length s
+    has-room = omega (arith, stored-count t (is-granted .rows), ltb-false (length s) (length (storedFields t)) (is-granted .room))
+
+    is-ready : Ready (widthOf x) (t .registers) (t .fields)
+    is-ready = rows-ready t (is-granted .rows) (widthOf x) (formed-width x (is-granted .form))
+
+    is-stocked : Stocked (t .registers) s
+    is-stocked = rows-stocked t (is-granted .rows) s has-room
+
+    pub answered-word : {w : ℕ} → w ≡ joinedWord x (t .registers) (t .fields) s → answer.Word w ≡ answerOf t s x
+    unfolding answerOf
+    answered-word f = rw (sym e ∙ z) (ap answer.Word (f ∙ stored-word x t (is-granted .rows) s))
+
+    pub answered-store : {u : List ℕ} → u ≡ steppedRows x (t .registers) (t .fields) 0 (length (t .registers) / 14) s → u ≡ storeAfter t s x
+    unfolding storeAfter
+    answered-store f = rw (sym e ∙ z) (f ∙ stored-stepped x t (is-granted .rows) s has-room)
+
+-- what the functions of an access ask
+pub answered-asks : (registers paths fields labels s : List ℕ) (x : Access) {n : ℕ} → n ≡ refusalOf (tables registers paths fields labels) s x → n ≡ 0
+    → Ready (widthOf x) registers fields × Stocked registers s
+answered-asks registers paths fields labels s x e z = (is-ready (tables registers paths fields labels) s x e z, is-stocked (tables registers paths fields labels) s x e z)
+
+-- ---- a reset
+
+module _ (t : Tables) (s : List ℕ) {b : Bool} (f : b ≡ lawful t) where
+  module _ (z : not b ≡ true) where
+    pub unlawful-answer : restored.Refused 24 ≡ resetAnswer t s
+    unfolding resetAnswer resetRefusal
+    unlawful-answer = rw (failed f z)
+
+    pub unlawful-store : s ≡ storeReset t s
+    unfolding storeReset resetRefusal
+    unlawful-store = rw (failed f z)
+
+  module _ (z : not b ≡ false) (h : length s < length (t .fields) / 8) where
+    pub short-answer : restored.Refused 22 ≡ resetAnswer t s
+    unfolding resetAnswer resetRefusal
+    short-answer = rw (passed f z, is-short t s (passed f z) h)
+
+    pub short-store : s ≡ storeReset t s
+    unfolding storeReset resetRefusal
+    short-store = rw (passed f z, is-short t s (passed f z) h)
+
+  module _ (z : not b ≡ false) (h : length (t .fields) / 8 ≤ length s) where
+    pub reset-answer : {n : ℕ} → n ≡ length (t .fields) / 8 → restored.Written n ≡ resetAnswer t s
+    unfolding resetAnswer resetRefusal
+    reset-answer e = rw (passed f z, is-long t s (passed f z) h) (ap restored.Written (e ∙ sym (stored-count t (passed f z))))
+
+    pub reset-store : {u : List ℕ} → u ≡ resetRows (t .fields) 0 (length (t .fields) / 8) s → u ≡ storeReset t s
+    unfolding storeReset resetRefusal
+    reset-store e = rw (passed f z, is-long t s (passed f z) h) (e ∙ stored-reset t (passed f z) s h)
+
+-- ---- whether an access may be sent again
+
+module _ (t : Tables) (x : Access) {a : Bool} (e : a ≡ wellFormed x) where
+  pub retry-form : not a ≡ true → retried.Refused 23 ≡ retryOf t x
+  unfolding retryOf retryRefusal
+  retry-form y = rw (failed e y)
+
+  module _ {b : Bool} (y : not a ≡ false) (f : b ≡ lawful t) where
+    pub retry-rows : not b ≡ true → retried.Refused 24 ≡ retryOf t x
+    unfolding retryOf retryRefusal
+    retry-rows z = rw (passed e y, failed f z)
+
+    module _ {p : Offset} {w : ℕ} {d : Bool} (z : not b ≡ false) (k : p ≡ addressOf x) (l : w ≡ widthOf x)
+        (m : d ≡ reachedRows p w (t .registers) 0 (length (t .registers) / 14)) where
+      pub retry-reach : not d ≡ true → retried.Refused 25 ≡ retryOf t x
+      unfolding retryOf retryRefusal
+      retry-reach v = rw (passed e y, passed f z, failed (reached-at t x (passed f z) k l m) v)
+
+      module _ {r : Bool} (v : not d ≡ false) (g : r ≡ repeatsRows x (t .registers) (t .fields) 0 (length (t .registers) / 14)) where
+        repeats-all : r ≡ repeats (storedFields t) x
+        repeats-all = g ∙ stored-repeat x t
+
+        pub retry-safe : r ≡ true → retried.Safe ≡ retryOf t x
+        unfolding retryOf retryRefusal
+        retry-safe u = rw (passed e y, passed f z, passed (reached-at t x (passed f z) k l m) v, sym repeats-all ∙ u)
+
+        pub retry-unsafe : r ≡ false → retried.Unsafe ≡ retryOf t x
+        unfolding retryOf retryRefusal
+        retry-unsafe u = rw (passed e y, passed f z, passed (reached-at t x (passed f z) k l m) v, sym repeats-all ∙ u)

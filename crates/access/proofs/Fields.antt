@@ -1,0 +1,155 @@
+-- The stored fields of lawful rows, as the loops go through them.
+use mathlib.Core.Path.{_≡_, refl, sym, ap, ap₂, _∙_}
+use mathlib.Core.Bool.{Bool, true, false, _&&_, _||_}
+use mathlib.Core.List.{List, [], _∷_, _++_}
+use Prim.Native.Nat.{ℕ, zero, suc, _+_, _-_, _/_, _<_, _≤_}
+use native.Mathlib.Omega.{arith}
+use lib.ListN.{length}
+use borrow.Author.Tests.{eqb-true}
+use Rattle.components.specs.declared.FieldAt.{FieldAt}
+use Rattle.components.specs.declared.Offset.{Offset}
+use Rattle.chars.proofs.Laws.{and-left, and-right}
+use Rattle.rows.specs.Rows.{Tables}
+use Rattle.rows.specs.declared.RegisterRow.{RegisterRow}
+use Rattle.rows.specs.Lawful.{registerRow, fieldRow, isRegisterRow, areRows, areWhole, lawful}
+use Rattle.rows.specs.Reading.{fieldsFrom, entryIn, entriesFrom}
+use Rattle.rows.proofs.Each.{row-first}
+use Rattle.model.specs.declared.StoredField.{StoredField}
+use Rattle.model.specs.declared.Access.{Access}
+use Rattle.model.specs.Model.{anyReached, reachesRegister, size}
+use Rattle.model.specs.Repeats.{repeats, allBelow, repeatsBit}
+use Rattle.access.specs.Stored.{storedIn, storedAmong, storedFields}
+use Rattle.access.specs.Steps.{registerOf, storedField, runFields, rowFields, storedRows, reachedRows, repeatsRows}
+use Rattle.access.proofs.Facts.{row-run, row-some}
+
+-- ---- the fields that stand in the tables are those of the rows
+
+run-stored : (t : Tables) (i j n : ℕ) → storedIn (entryIn t i) (fieldsFrom (t .fields) (t .labels) j n) ≡ runFields (registerRow (t .registers) i) (t .fields) j n
+unfolding storedIn fieldsFrom runFields
+run-stored t i j zero = refl
+run-stored t i j (suc n) = ap (λ (l : List StoredField). storedField (registerRow (t .registers) i) (fieldRow (t .fields) j) ∷ l) (run-stored t i (suc j) n)
+
+among-stored : (t : Tables) (i n : ℕ) → storedAmong (entriesFrom t i n) ≡ storedRows (t .registers) (t .fields) i n
+unfolding storedAmong entriesFrom storedRows
+among-stored t i zero = refl
+among-stored t i (suc n) =
+    ap₂ (λ (a b : List StoredField). a ++ b) (run-stored t i (registerRow (t .registers) i .first) (registerRow (t .registers) i .count)) (among-stored t (suc i) n)
+
+pub stored-rows : (t : Tables) → storedFields t ≡ storedRows (t .registers) (t .fields) 0 (length (t .registers) / 14)
+stored-rows t = among-stored t 0 (length (t .registers) / 14)
+
+pub length-run : (r : RegisterRow) (fields : List ℕ) (j n : ℕ) → length (runFields r fields j n) ≡ n
+unfolding runFields
+length-run r fields j zero = refl
+length-run r fields j (suc n) = ap suc (length-run r fields (suc j) n)
+
+-- ---- the field rows, one after the other
+
+unfoldable pub atRows : List ℕ → ℕ → ℕ → List FieldAt
+atRows fields j zero = []
+atRows fields j (suc n) = fieldRow fields j ∷ atRows fields (suc j) n
+
+length-at : (fields : List ℕ) (j n : ℕ) → length (atRows fields j n) ≡ n
+unfolding atRows
+length-at fields j zero = refl
+length-at fields j (suc n) = ap suc (length-at fields (suc j) n)
+
+unfoldable pub fieldsAt : List StoredField → List FieldAt
+fieldsAt [] = []
+fieldsAt (c ∷ m) = c .field ∷ fieldsAt m
+
+length-fields : (m : List StoredField) → length (fieldsAt m) ≡ length m
+unfolding fieldsAt
+length-fields [] = refl
+length-fields (c ∷ m) = ap suc (length-fields m)
+
+-- a run's fields, then those of the next rows
+run-at : (r : RegisterRow) (fields : List ℕ) (j n k : ℕ) (m : List StoredField) → fieldsAt m ≡ atRows fields (j + n) k → fieldsAt (runFields r fields j n ++ m) ≡ atRows fields j (n + k)
+unfolding fieldsAt atRows runFields
+run-at r fields j zero k m e =
+    let z : j + 0 ≡ j = omega arith in
+    let y : 0 + k ≡ k = omega arith in
+    rw y (rw z at e)
+run-at r fields j (suc n) k m e =
+    let z : j + suc n ≡ suc j + n = omega arith in
+    let y : suc n + k ≡ suc (n + k) = omega arith in
+    rw y (ap (λ (l : List FieldAt). fieldRow fields j ∷ l) (run-at r fields (suc j) n k m (rw z at e)))
+
+rows-at : (t : Tables) (all i first n : ℕ) → areRows t all i first n ≡ true → fieldsAt (storedRows (t .registers) (t .fields) i n) ≡ atRows (t .fields) first (all - first)
+unfolding areRows storedRows fieldsAt atRows
+rows-at t all i first zero e =
+    let z : first ≡ all = eqb-true first all e in
+    let n : all - first ≡ 0 = omega arith in
+    rw n refl
+rows-at t all i first (suc n) e =
+    let own : isRegisterRow t all i first ≡ true = and-left (isRegisterRow t all i first) _ e in
+    let r : RegisterRow = registerRow (t .registers) i in
+    let f : r .first ≡ first = row-first t all i first own in
+    let l : first + r .count ≤ all = row-run t all i first own in
+    let k : r .count + (all - (first + r .count)) ≡ all - first = omega arith in
+    ap (λ (j : ℕ). fieldsAt (runFields r (t .fields) j (r .count) ++ storedRows (t .registers) (t .fields) (suc i) n)) f
+    ∙ run-at r (t .fields) first (r .count) (all - (first + r .count)) (storedRows (t .registers) (t .fields) (suc i) n)
+    (rows-at t all (suc i) (first + r .count) n (and-right (isRegisterRow t all i first) _ e))
+    ∙ ap (atRows (t .fields) first) k
+
+-- the rows of lawful tables
+pub whole-rows : (t : Tables) → lawful t ≡ true → areRows t (length (t .fields) / 8) 0 0 (length (t .registers) / 14) ≡ true
+unfolding lawful
+whole-rows t e = and-right (areWhole (length (t .registers)) (length (t .paths)) (length (t .fields)) (length (t .labels))) _ e
+
+pub stored-at : (t : Tables) → lawful t ≡ true → fieldsAt (storedFields t) ≡ atRows (t .fields) 0 (length (t .fields) / 8)
+stored-at t e =
+    let n : length (t .fields) / 8 - 0 ≡ length (t .fields) / 8 = omega arith in
+    ap fieldsAt (stored-rows t) ∙ rows-at t (length (t .fields) / 8) 0 0 (length (t .registers) / 14) (whole-rows t e) ∙ ap (atRows (t .fields) 0) n
+
+-- as many numbers as field rows
+pub stored-count : (t : Tables) → lawful t ≡ true → length (storedFields t) ≡ length (t .fields) / 8
+stored-count t e = sym (length-fields (storedFields t)) ∙ ap length (stored-at t e) ∙ length-at (t .fields) 0 (length (t .fields) / 8)
+
+-- ---- registers that are reached
+
+run-reached : (a : Offset) (w : ℕ) (r : RegisterRow) (fields : List ℕ) (j n : ℕ) (m : List StoredField) (b : Bool) → reachesRegister a w (r .address) (registerOf r) ≡ b → 0 < n
+    → anyReached (runFields r fields j n ++ m) a w ≡ b || anyReached m a w
+unfolding anyReached runFields
+run-reached a w r fields j zero m b e h = absurd (omega arith)
+run-reached a w r fields j (suc n) m true e h = ap (λ (x : Bool). x || anyReached (runFields r fields (suc j) n ++ m) a w) e
+run-reached a w r fields j (suc zero) m false e h = ap (λ (x : Bool). x || anyReached m a w) e
+run-reached a w r fields j (suc (suc n)) m false e h =
+    ap (λ (x : Bool). x || anyReached (runFields r fields (suc j) (suc n) ++ m) a w) e ∙ run-reached a w r fields (suc j) (suc n) m false e (omega arith)
+
+rows-reached : (a : Offset) (w : ℕ) (t : Tables) (all i first n : ℕ) → areRows t all i first n ≡ true
+    → reachedRows a w (t .registers) i n ≡ anyReached (storedRows (t .registers) (t .fields) i n) a w
+unfolding areRows reachedRows storedRows anyReached
+rows-reached a w t all i first zero e = refl
+rows-reached a w t all i first (suc n) e =
+    let own : isRegisterRow t all i first ≡ true = and-left (isRegisterRow t all i first) _ e in
+    let r : RegisterRow = registerRow (t .registers) i in
+    let b : Bool = reachesRegister a w (r .address) (registerOf r) in
+    ap (λ (x : Bool). b || x) (rows-reached a w t all (suc i) (first + r .count) n (and-right (isRegisterRow t all i first) _ e))
+    ∙ sym (run-reached a w r (t .fields) (r .first) (r .count) (storedRows (t .registers) (t .fields) (suc i) n) b refl (row-some t all i first own))
+
+pub stored-reached : (a : Offset) (w : ℕ) (t : Tables) → lawful t ≡ true → reachedRows a w (t .registers) 0 (length (t .registers) / 14) ≡ anyReached (storedFields t) a w
+stored-reached a w t e =
+    rows-reached a w t (length (t .fields) / 8) 0 0 (length (t .registers) / 14) (whole-rows t e) ∙ ap (λ (m : List StoredField). anyReached m a w) (sym (stored-rows t))
+
+-- ---- fields that let an access be made again
+
+and-assoc : (a b c : Bool) → (a && (b && c)) ≡ ((a && b) && c)
+and-assoc true b c = refl
+and-assoc false b c = refl
+
+repeats-join : (x : Access) (l m : List StoredField) → repeats (l ++ m) x ≡ repeats l x && repeats m x
+unfolding repeats
+repeats-join x [] m = refl
+repeats-join x (c ∷ l) m =
+    ap (λ (b : Bool). allBelow (size c) (repeatsBit x c) && b) (repeats-join x l m) ∙ and-assoc (allBelow (size c) (repeatsBit x c)) (repeats l x) (repeats m x)
+
+rows-repeat : (x : Access) (registers fields : List ℕ) (i n : ℕ) → repeatsRows x registers fields i n ≡ repeats (storedRows registers fields i n) x
+unfolding repeatsRows storedRows repeats
+rows-repeat x registers fields i zero = refl
+rows-repeat x registers fields i (suc n) =
+    ap (λ (b : Bool). repeats (rowFields (registerRow registers i) fields) x && b) (rows-repeat x registers fields (suc i) n)
+    ∙ sym (repeats-join x (rowFields (registerRow registers i) fields) (storedRows registers fields (suc i) n))
+
+pub stored-repeat : (x : Access) (t : Tables) → repeatsRows x (t .registers) (t .fields) 0 (length (t .registers) / 14) ≡ repeats (storedFields t) x
+stored-repeat x t = rows-repeat x (t .registers) (t .fields) 0 (length (t .registers) / 14) ∙ ap (λ (m : List StoredField). repeats m x) (sym (stored-rows t))

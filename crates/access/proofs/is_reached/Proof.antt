@@ -1,0 +1,30 @@
+-- The registers that are left have the same answer from every register that the loop passes.
+use borrow.Author.Needs.{needs}
+use Prim.Native.Nat.{_-_}
+use mathlib.Core.Path.{_≡_}
+use Rattle.access.specs.Steps.{reachedRows}
+use Rattle.access.proofs.Loops.{reach-loop}
+use Rattle.access.proofs.is_reached.Statement.{statement}
+use Rattle.access.proofs.is_reached.Tie as tie
+
+abbrev Inv-loop : tie.InvT-loop
+Inv-loop registers address width count i₀ i = reachedRows address width registers i (count - i) ≡ reachedRows address width registers 0 count
+
+abbrev μ-loop : tie.MeasureT-loop
+μ-loop registers address width count i₀ i = count - i
+
+pub is-reached-spec : {M : Type 1} → statement M
+is-reached-spec =
+    tie.close
+    (tie.spec
+    Inv-loop
+    μ-loop
+    (λ c. search reach-loop)
+    (λ c κs. search needs)
+    (λ c κs. search needs)
+    (λ c κs. search needs)
+    (λ c. search reach-loop)
+    (λ c. search needs)
+    (λ c. search needs)
+    (λ c. search reach-loop)
+    (λ c. search reach-loop))

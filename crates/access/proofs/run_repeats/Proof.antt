@@ -1,0 +1,32 @@
+-- The fields that are left have the same answer from every field that the loop passes.
+use borrow.Author.Needs.{needs}
+use Prim.Native.Nat.{_+_, _-_}
+use mathlib.Core.Path.{_≡_}
+use Rattle.model.specs.Repeats.{repeats}
+use Rattle.access.specs.Steps.{runFields, rowFields}
+use Rattle.access.proofs.Loops.{field-usable, again-loop}
+use Rattle.access.proofs.run_repeats.Statement.{statement}
+use Rattle.access.proofs.run_repeats.Tie as tie
+
+abbrev Inv-loop : tie.InvT-loop
+Inv-loop fields x row first count k₀ k = repeats (runFields row fields (first + k) (count - k)) x ≡ repeats (rowFields row fields) x
+
+abbrev μ-loop : tie.MeasureT-loop
+μ-loop fields x row first count k₀ k = count - k
+
+pub run-repeats-spec : {M : Type 1} → statement M
+run-repeats-spec =
+    tie.close
+    (tie.spec
+    Inv-loop
+    μ-loop
+    (λ c. search again-loop)
+    (λ c. search needs)
+    (λ c κs. search needs)
+    (λ c κs. search needs)
+    (λ c κs. search field-usable)
+    (λ c. search again-loop)
+    (λ c. search needs)
+    (λ c. search needs)
+    (λ c. search again-loop)
+    (λ c. search again-loop))

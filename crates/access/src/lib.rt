@@ -1,0 +1,386 @@
+// Reset, read, write and retry over lawful rows and a store: a lent slice of numbers, one for each field row.
+use components::FieldAt;
+use components::Offset;
+use components::Register;
+use model::Access;
+use model::Answer;
+use model::StoredField;
+use rows::RegisterRow;
+ghost use mathlib.Core.Path.{_≡_};
+ghost use Prim.Native.Nat.{_+_, _/_, _≤_, _<_};
+ghost use lib.ListN.{length};
+ghost use Rattle.rows.specs.Rows.{tables};
+ghost use Rattle.model.specs.Model.{widthOf};
+ghost use Rattle.model.specs.Repeats.{repeats};
+ghost use Rattle.access.specs.Perform.{refusalOf, answerOf, storeAfter, resetAnswer, storeReset, retryOf};
+ghost use Rattle.access.specs.Steps.{registerOf, storedField, rowFields, steppedFrom, steppedRows, joinedFrom, joinedRows, joinedWord, reachedRows, isFitting, fittingRows, AllFields, resetIn, resetRows, repeatsRows, Runs, Ready, Stocked};
+
+// What reset answers: a refusal's number, or how many numbers it wrote.
+pub enum Restored {
+    Refused(u8),
+    Written(usize),
+}
+
+// Whether an access may be sent again: a refusal's number, or whether made twice it does what it does made once.
+pub enum Retried {
+    Refused(u8),
+    Safe,
+    Unsafe,
+}
+
+// The widths of a register's row.
+fn register_of(row: RegisterRow) -> Register
+    ensures { λ r. ⌜ r ≡ registerOf row ⌝ }
+{
+    let width = row.width;
+    let access = row.access;
+    Register { width, access }
+}
+
+// A field with its register.
+fn stored_field(row: RegisterRow, field: FieldAt) -> StoredField
+    ensures { λ r. ⌜ r ≡ storedField row field ⌝ }
+{
+    let base = row.address;
+    let register = register_of(row);
+    StoredField {
+        base,
+        register,
+        field,
+    }
+}
+
+// The numbers of a register's fields after an access that is answered.
+fn step_run(fields: &[u64], store: &mut [u64], x: Access, row: RegisterRow)
+    requires { ⌜ Runs (widthOf x) (now fields) row × (row .first + row .count ≤ length (now store)) ⌝ }
+    ensures { λ _. ⌜ now (store .exit) ≡ steppedFrom x (rowFields row (now (fields .entry))) (row .first) (now (store .entry)) ⌝ }
+{
+    let first = row.first as usize;
+    let count = row.count as usize;
+    let mut k: usize = 0;
+    while k < count {
+        let j = first + k;
+        let field = stored_field(row, rows::field_row(fields, j));
+        store[j] = stored::number_after(x, field, store[j]);
+        k += 1;
+    }
+}
+
+// The store after an access that is answered.
+fn step_rows(registers: &[u64], fields: &[u64], store: &mut [u64], x: Access)
+    requires { ⌜ Ready (widthOf x) (now registers) (now fields) × Stocked (now registers) (now store) ⌝ }
+    ensures { λ _. ⌜ now (store .exit) ≡ steppedRows x (now (registers .entry)) (now (fields .entry)) 0 (length (now (registers .entry)) / 14) (now (store .entry)) ⌝ }
+{
+    let count = registers.len() / rows::REGISTER_ROW;
+    let mut i: usize = 0;
+    while i < count {
+        let row = rows::register_row(registers, i);
+        step_run(fields, store, x, row);
+        i += 1;
+    }
+}
+
+// A word with the bits that a register's fields give to a read.
+fn word_of_run(
+    fields: &[u64],
+    store: &[u64],
+    address: Offset,
+    width: u64,
+    row: RegisterRow,
+    before: u64,
+) -> u64
+    requires { ⌜ Runs width (now fields) row × (row .first + row .count ≤ length (now store)) ⌝ }
+    ensures { λ r. ⌜ r ≡ joinedFrom address width (rowFields row (now (fields .entry))) (row .first) (now (store .entry)) before ⌝ }
+{
+    let first = row.first as usize;
+    let count = row.count as usize;
+    let mut word = before;
+    let mut k: usize = 0;
+    while k < count {
+        let j = first + k;
+        let field = stored_field(row, rows::field_row(fields, j));
+        word = word | stored::word_of(address, width, field, store[j]);
+        k += 1;
+    }
+    word
+}
+
+// The word of a read that is answered.
+fn word_of_rows(
+    registers: &[u64],
+    fields: &[u64],
+    store: &[u64],
+    address: Offset,
+    width: u64,
+) -> u64
+    requires { ⌜ Ready width (now registers) (now fields) × Stocked (now registers) (now store) ⌝ }
+    ensures { λ r. ⌜ r ≡ joinedRows address width (now (registers .entry)) (now (fields .entry)) 0 (length (now (registers .entry)) / 14) (now (store .entry)) 0 ⌝ }
+{
+    let count = registers.len() / rows::REGISTER_ROW;
+    let mut word: u64 = 0;
+    let mut i: usize = 0;
+    while i < count {
+        let row = rows::register_row(registers, i);
+        word = word_of_run(fields, store, address, width, row, word);
+        i += 1;
+    }
+    word
+}
+
+// Whether an access reaches a register.
+fn is_reached(registers: &[u64], address: Offset, width: u64) -> bool
+    requires { ⌜ (8 ≤ width) × (length (now registers) / 14 ≤ 1024) ⌝ }
+    ensures { λ r. ⌜ r ≡ reachedRows address width (now (registers .entry)) 0 (length (now (registers .entry)) / 14) ⌝ }
+{
+    let count = registers.len() / rows::REGISTER_ROW;
+    let mut i: usize = 0;
+    while i < count {
+        let row = rows::register_row(registers, i);
+        let base = row.address;
+        let register = register_of(row);
+        if stored::reaches_register(address, width, base, register) {
+            return true;
+        }
+        i += 1;
+    }
+    false
+}
+
+// Whether a number has no more bits than a field.
+fn is_fitting(number: u64, field: FieldAt) -> bool
+    requires { ⌜ (field .low .0 ≤ field .high .0) × (field .high .0 < 64) ⌝ }
+    ensures { λ r. ⌜ r ≡ isFitting number field ⌝ }
+{
+    let low = field.low;
+    let high = field.high;
+    !components::needs_more(number, high.0 + 1 - low.0)
+}
+
+// Whether the store fits: the number of each field row has no more bits than the field.
+fn are_fitting(fields: &[u64], store: &[u64]) -> bool
+    requires { ⌜ AllFields (now fields) × (length (now fields) / 8 ≤ length (now store)) ⌝ }
+    ensures { λ r. ⌜ r ≡ fittingRows (now (fields .entry)) (now (store .entry)) 0 (length (now (fields .entry)) / 8) ⌝ }
+{
+    let all = fields.len() / rows::FIELD_ROW;
+    let mut j: usize = 0;
+    while j < all {
+        let field = rows::field_row(fields, j);
+        if !is_fitting(store[j], field) {
+            return false;
+        }
+        j += 1;
+    }
+    true
+}
+
+// The number of an access's first refusal, or 0.
+fn first_refusal(
+    registers: &[u64],
+    paths: &[u8],
+    fields: &[u64],
+    labels: &[u8],
+    store: &[u64],
+    x: Access,
+) -> u8
+    ensures { λ r. ⌜ r ≡ refusalOf (tables (now (registers .entry)) (now (paths .entry)) (now (fields .entry)) (now (labels .entry))) (now (store .entry)) x ⌝ }
+{
+    if !stored::is_well_formed(x) {
+        return 23;
+    }
+    if !rows::are_lawful(registers, paths, fields, labels) {
+        return 24;
+    }
+    if store.len() < fields.len() / rows::FIELD_ROW {
+        return 22;
+    }
+    if !are_fitting(fields, store) {
+        return 24;
+    }
+    if !is_reached(registers, stored::address_of(x), stored::width_of(x)) {
+        return 25;
+    }
+    0
+}
+
+// The word of an access that is answered: 0 for a write.
+fn word_of_access(registers: &[u64], fields: &[u64], store: &[u64], x: Access) -> u64
+    requires { ⌜ Ready (widthOf x) (now registers) (now fields) × Stocked (now registers) (now store) ⌝ }
+    ensures { λ r. ⌜ r ≡ joinedWord x (now (registers .entry)) (now (fields .entry)) (now (store .entry)) ⌝ }
+{
+    match x {
+        Access::Read { address, width } => word_of_rows(registers, fields, store, address, width),
+        Access::Write {
+            address: _,
+            width: _,
+            word: _,
+        } => 0,
+    }
+}
+
+// Makes an access: the answer, and the store afterwards. Refused, nothing has changed.
+pub fn perform(
+    registers: &[u64],
+    paths: &[u8],
+    fields: &[u64],
+    labels: &[u8],
+    store: &mut [u64],
+    x: Access,
+) -> Answer
+    ensures answer { λ r. ⌜ r ≡ answerOf (tables (now (registers .entry)) (now (paths .entry)) (now (fields .entry)) (now (labels .entry))) (now (store .entry)) x ⌝ }
+    ensures stored { λ _. ⌜ now (store .exit) ≡ storeAfter (tables (now (registers .entry)) (now (paths .entry)) (now (fields .entry)) (now (labels .entry))) (now (store .entry)) x ⌝ }
+{
+    let refusal = first_refusal(registers, paths, fields, labels, store, x);
+    if refusal != 0 {
+        return Answer::Refused(refusal);
+    }
+    let word = word_of_access(registers, fields, store, x);
+    step_rows(registers, fields, store, x);
+    Answer::Word(word)
+}
+
+// A software read of so many bits at an address.
+pub fn read(
+    registers: &[u64],
+    paths: &[u8],
+    fields: &[u64],
+    labels: &[u8],
+    store: &mut [u64],
+    address: Offset,
+    width: u64,
+) -> Answer
+    ensures answer { λ r. ⌜ r ≡ answerOf (tables (now (registers .entry)) (now (paths .entry)) (now (fields .entry)) (now (labels .entry))) (now (store .entry)) (Access.Read address width) ⌝ }
+    ensures stored { λ _. ⌜ now (store .exit) ≡ storeAfter (tables (now (registers .entry)) (now (paths .entry)) (now (fields .entry)) (now (labels .entry))) (now (store .entry)) (Access.Read address width) ⌝ }
+{
+    perform(
+        registers,
+        paths,
+        fields,
+        labels,
+        store,
+        Access::Read { address, width },
+    )
+}
+
+// A software write of a word of so many bits at an address.
+pub fn write(
+    registers: &[u64],
+    paths: &[u8],
+    fields: &[u64],
+    labels: &[u8],
+    store: &mut [u64],
+    address: Offset,
+    width: u64,
+    word: u64,
+) -> Answer
+    ensures answer { λ r. ⌜ r ≡ answerOf (tables (now (registers .entry)) (now (paths .entry)) (now (fields .entry)) (now (labels .entry))) (now (store .entry)) (Access.Write address width word) ⌝ }
+    ensures stored { λ _. ⌜ now (store .exit) ≡ storeAfter (tables (now (registers .entry)) (now (paths .entry)) (now (fields .entry)) (now (labels .entry))) (now (store .entry)) (Access.Write address width word) ⌝ }
+{
+    perform(
+        registers,
+        paths,
+        fields,
+        labels,
+        store,
+        Access::Write {
+            address,
+            width,
+            word,
+        },
+    )
+}
+
+// A field's reset, or 0.
+fn reset_of(field: FieldAt) -> u64
+    ensures { λ r. ⌜ r ≡ resetIn field ⌝ }
+{
+    let values = field.values;
+    let reset = values.reset;
+    properties::or_else(0, reset)
+}
+
+fn put_resets(fields: &[u64], store: &mut [u64])
+    requires { ⌜ (length (now fields) / 8 ≤ 4096) × (length (now fields) / 8 ≤ length (now store)) ⌝ }
+    ensures { λ _. ⌜ now (store .exit) ≡ resetRows (now (fields .entry)) 0 (length (now (fields .entry)) / 8) (now (store .entry)) ⌝ }
+{
+    let all = fields.len() / rows::FIELD_ROW;
+    let mut j: usize = 0;
+    while j < all {
+        store[j] = reset_of(rows::field_row(fields, j));
+        j += 1;
+    }
+}
+
+// Writes the store that a post starts with: each field's reset, or 0.
+pub fn reset(
+    registers: &[u64],
+    paths: &[u8],
+    fields: &[u64],
+    labels: &[u8],
+    store: &mut [u64],
+) -> Restored
+    ensures answer { λ r. ⌜ r ≡ resetAnswer (tables (now (registers .entry)) (now (paths .entry)) (now (fields .entry)) (now (labels .entry))) (now (store .entry)) ⌝ }
+    ensures stored { λ _. ⌜ now (store .exit) ≡ storeReset (tables (now (registers .entry)) (now (paths .entry)) (now (fields .entry)) (now (labels .entry))) (now (store .entry)) ⌝ }
+{
+    if !rows::are_lawful(registers, paths, fields, labels) {
+        return Restored::Refused(24);
+    }
+    let all = fields.len() / rows::FIELD_ROW;
+    if store.len() < all {
+        return Restored::Refused(22);
+    }
+    put_resets(fields, store);
+    Restored::Written(all)
+}
+
+// Whether each bit of a register's fields lets an access be made again.
+fn run_repeats(fields: &[u64], x: Access, row: RegisterRow) -> bool
+    requires { ⌜ Runs (widthOf x) (now fields) row ⌝ }
+    ensures { λ r. ⌜ r ≡ repeats (rowFields row (now (fields .entry))) x ⌝ }
+{
+    let first = row.first as usize;
+    let count = row.count as usize;
+    let mut k: usize = 0;
+    while k < count {
+        let field = stored_field(row, rows::field_row(fields, first + k));
+        if !stored::repeats_all(x, field) {
+            return false;
+        }
+        k += 1;
+    }
+    true
+}
+
+fn rows_repeat(registers: &[u64], fields: &[u64], x: Access) -> bool
+    requires { ⌜ Ready (widthOf x) (now registers) (now fields) ⌝ }
+    ensures { λ r. ⌜ r ≡ repeatsRows x (now (registers .entry)) (now (fields .entry)) 0 (length (now (registers .entry)) / 14) ⌝ }
+{
+    let count = registers.len() / rows::REGISTER_ROW;
+    let mut i: usize = 0;
+    while i < count {
+        let row = rows::register_row(registers, i);
+        if !run_repeats(fields, x, row) {
+            return false;
+        }
+        i += 1;
+    }
+    true
+}
+
+// Whether an access may be sent again.
+pub fn retry(registers: &[u64], paths: &[u8], fields: &[u64], labels: &[u8], x: Access) -> Retried
+    ensures { λ r. ⌜ r ≡ retryOf (tables (now (registers .entry)) (now (paths .entry)) (now (fields .entry)) (now (labels .entry))) x ⌝ }
+{
+    if !stored::is_well_formed(x) {
+        return Retried::Refused(23);
+    }
+    if !rows::are_lawful(registers, paths, fields, labels) {
+        return Retried::Refused(24);
+    }
+    if !is_reached(registers, stored::address_of(x), stored::width_of(x)) {
+        return Retried::Refused(25);
+    }
+    if rows_repeat(registers, fields, x) {
+        return Retried::Safe;
+    }
+    Retried::Unsafe
+}

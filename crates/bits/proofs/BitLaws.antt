@@ -1,0 +1,228 @@
+-- The laws of bits, once over the width. Assumes nothing.
+use mathlib.Core.Path.{_≡_, refl, sym, ap, ap₂, _∙_, subst}
+use mathlib.Core.Bool.{Bool, true, false, not, _&&_, _||_}
+use Prim.Native.Nat.{ℕ, zero, suc, _+_, _-_, _*_, _/_, _%_, _^_, _≤_, _<_, min, max}
+use native.Mathlib.Nat.{not-suc-le-zero, zero-add, mul-assoc, add-mul-div-right, add-mul-mod-self-right, mod-eq-of-lt, div-eq-of-lt, mod-lt, zero-lt-suc, pow-suc, zero-min, min-zero, suc-min-suc, zero-max, max-zero, suc-max-suc, mod-one, lt-of-lt-of-le, zero-div, le-div-iff-mul-le}
+use native.Mathlib.Omega.{arith}
+use native.Mathlib.Numerals.{add-one, one-add}
+use native.Mathlib.Decide.{decLt}
+use lib.Arith.{digits-mod}
+use lib.Dec.{eqb, ltb, eqb·suc-zero}
+use borrow.Author.Tests.{eq-eqb, ne-eqb, lt-ltb, le-ltb}
+use lib.Pow.{pow-pos, pow-mono, pow-add, mod-pow-add, shr-shr}
+use lib.Bits.{bitAnd, bitOr, bitXor, differ, and-shr, or-shr, xor-shr, and-step, or-step, xor-step, or-lt}
+use Rattle.bits.specs.Bits.{nonzero, digit, bit, number}
+
+pub nonzero-digit : (b : Bool) → nonzero (digit b) ≡ b
+nonzero-digit true = refl
+nonzero-digit false = refl
+
+pub digit-nonzero : (x : ℕ) → x < 2 → digit (nonzero x) ≡ x
+digit-nonzero zero h = refl
+digit-nonzero (suc zero) h = refl
+digit-nonzero (suc (suc x)) h = absurd (omega arith)
+
+-- the test that a word is not 0
+pub nonzero-test : (x : ℕ) → not (eqb x 0) ≡ nonzero x
+nonzero-test zero = refl
+nonzero-test (suc x) = ap not (eqb·suc-zero x)
+
+pub digit-lt : (b : Bool) → digit b < 2
+digit-lt true = omega arith
+digit-lt false = omega arith
+
+-- ---- the number of some bits
+
+pub number-lt : (n : ℕ) (f : ℕ → Bool) → number n f < 2 ^ n
+unfolding number
+number-lt zero f = omega arith
+number-lt (suc n) f = go (f n) (number-lt n f)
+  where
+    go : (b : Bool) → number n f < 2 ^ n → number n f + digit b * 2 ^ n < 2 ^ suc n
+    go true h = omega (arith, pow-suc 2 n)
+    go false h = omega (arith, pow-suc 2 n)
+
+pub number-ext : (n : ℕ) (f g : ℕ → Bool) → ((i : ℕ) → i < n → f i ≡ g i) → number n f ≡ number n g
+unfolding number
+number-ext zero f g h = refl
+number-ext (suc n) f g h =
+    ap₂ (λ (x : ℕ) (b : Bool). x + digit b * 2 ^ n) (number-ext n f g (λ i k. h i (omega arith))) (h n (omega arith))
+
+-- a digit above bit i does not change it
+above : (r d k i : ℕ) → bit (r + d * 2 ^ (suc k + i)) i ≡ bit r i
+unfolding bit
+above r d k i =
+    ap nonzero
+    (ap (λ (x : ℕ). (r + x) / 2 ^ i % 2)
+    (ap (λ (x : ℕ). d * x) (pow-add 2 (suc k) i ∙ ap (λ (x : ℕ). x * 2 ^ i) (pow-suc 2 k))
+    ∙ sym (mul-assoc d (2 ^ k * 2) (2 ^ i)) ∙ ap (λ (x : ℕ). x * 2 ^ i) (sym (mul-assoc d (2 ^ k) 2)))
+    ∙ ap (λ (x : ℕ). x % 2) (add-mul-div-right r (d * 2 ^ k * 2) (pow-pos i))
+    ∙ add-mul-mod-self-right (r / 2 ^ i) (d * 2 ^ k) 2)
+
+-- the digit at n, above a number below 2 ^ n
+top : (n r : ℕ) (b : Bool) → r < 2 ^ n → bit (r + digit b * 2 ^ n) n ≡ b
+unfolding bit
+top n r b h =
+    ap nonzero
+    (ap (λ (x : ℕ). x % 2) (add-mul-div-right r (digit b) (pow-pos n) ∙ ap (λ (x : ℕ). x + digit b) (div-eq-of-lt h) ∙ zero-add (digit b))
+    ∙ mod-eq-of-lt (digit-lt b))
+    ∙ nonzero-digit b
+
+pub bit-number : (n : ℕ) (f : ℕ → Bool) (i : ℕ) → i < n → bit (number n f) i ≡ f i
+unfolding number
+bit-number zero f i h = absurd (not-suc-le-zero h)
+bit-number (suc n) f i h = go (decLt i n) (bit-number n f i)
+  where
+    go : Dec (i < n) → (i < n → bit (number n f) i ≡ f i) → bit (number n f + digit (f n) * 2 ^ n) i ≡ f i
+    go (yes k) ih =
+        let e : suc (n - suc i) + i ≡ n = omega arith in
+        subst (λ (m : ℕ). bit (number n f + digit (f n) * 2 ^ m) i ≡ bit (number n f) i) e (above (number n f) (digit (f n)) (n - suc i) i)
+        ∙ ih k
+    go (no k) ih =
+        let e : n ≡ i = omega arith in
+        subst (λ (m : ℕ). bit (number n f + digit (f n) * 2 ^ n) m ≡ f m) e (top n (number n f) (f n) (number-lt n f))
+
+-- ---- a number is that of its bits
+
+bit-digit : (n v : ℕ) → digit (bit v n) ≡ v / 2 ^ n % 2
+unfolding bit
+bit-digit n v = digit-nonzero (v / 2 ^ n % 2) (mod-lt (v / 2 ^ n) (zero-lt-suc 1))
+
+pub number-mod : (n v : ℕ) → number n (bit v) ≡ v % 2 ^ n
+unfolding number
+number-mod zero v = sym (mod-one v)
+number-mod (suc n) v =
+    ap₂ (λ (x y : ℕ). x + y * 2 ^ n) (number-mod n v) (bit-digit n v)
+    ∙ swap
+    ∙ sym (mod-pow-add v 1 n) ∙ ap (λ (k : ℕ). v % 2 ^ k) (one-add n)
+  where
+    swap : v % 2 ^ n + (v / 2 ^ n % 2) * 2 ^ n ≡ (v / 2 ^ n % 2 ^ 1) * 2 ^ n + v % 2 ^ n
+    swap = omega arith
+
+pub number-bit : (n v : ℕ) → v < 2 ^ n → number n (bit v) ≡ v
+number-bit n v h = number-mod n v ∙ mod-eq-of-lt h
+
+-- two numbers below 2 ^ n with the same bits are equal
+pub bit-ext : (n a b : ℕ) → a < 2 ^ n → b < 2 ^ n → ((i : ℕ) → i < n → bit a i ≡ bit b i) → a ≡ b
+bit-ext n a b ha hb h = sym (number-bit n a ha) ∙ number-ext n (bit a) (bit b) h ∙ number-bit n b hb
+
+pub bit-above : (n v i : ℕ) → v < 2 ^ n → n ≤ i → bit v i ≡ false
+unfolding bit
+bit-above n v i h k = ap (λ (x : ℕ). nonzero (x % 2)) (div-eq-of-lt (lt-of-lt-of-le h (pow-mono k)))
+
+pub bit-zero : (i : ℕ) → bit 0 i ≡ false
+unfolding bit
+bit-zero i = ap (λ (x : ℕ). nonzero (x % 2)) (zero-div (2 ^ i))
+
+pub bit-shr : (v k i : ℕ) → bit (v / 2 ^ k) i ≡ bit v (k + i)
+unfolding bit
+bit-shr v k i = ap (λ (x : ℕ). nonzero (x % 2)) (shr-shr v k i)
+
+-- ---- the operations on words, bit by bit
+
+nonzero-min : (x y : ℕ) → nonzero (min x y) ≡ nonzero x && nonzero y
+nonzero-min zero y = ap nonzero (zero-min y)
+nonzero-min (suc x) zero = ap nonzero (min-zero (suc x))
+nonzero-min (suc x) (suc y) = ap nonzero (suc-min-suc x y)
+
+nonzero-max : (x y : ℕ) → nonzero (max x y) ≡ nonzero x || nonzero y
+nonzero-max zero y = ap nonzero (zero-max y)
+nonzero-max (suc x) zero = ap nonzero (max-zero (suc x))
+nonzero-max (suc x) (suc y) = ap nonzero (suc-max-suc x y)
+
+abbrev pub differs : Bool → Bool → Bool
+differs true b = not b
+differs false b = b
+
+nonzero-differ : (x y : ℕ) → x < 2 → y < 2 → nonzero (differ x y) ≡ differs (nonzero x) (nonzero y)
+nonzero-differ zero y hx hy = refl
+nonzero-differ (suc zero) zero hx hy = refl
+nonzero-differ (suc zero) (suc zero) hx hy = refl
+nonzero-differ (suc zero) (suc (suc y)) hx hy = absurd (omega arith)
+nonzero-differ (suc (suc x)) y hx hy = absurd (omega arith)
+
+low-two : (x : ℕ) → x % 2 < 2
+low-two x = mod-lt x (zero-lt-suc 1)
+
+pub bit-and : (a b i : ℕ) → bit (bitAnd a b) i ≡ bit a i && bit b i
+unfolding bit
+bit-and a b i =
+    let p = a / 2 ^ i in
+    let q = b / 2 ^ i in
+    ap (λ (x : ℕ). nonzero (x % 2)) (and-shr a b i ∙ and-step p q)
+    ∙ ap nonzero (digits-mod (bitAnd (p / 2) (q / 2)) (omega (arith, low-two p, low-two q)))
+    ∙ nonzero-min (p % 2) (q % 2)
+
+pub bit-or : (a b i : ℕ) → bit (bitOr a b) i ≡ bit a i || bit b i
+unfolding bit
+bit-or a b i =
+    let p = a / 2 ^ i in
+    let q = b / 2 ^ i in
+    ap (λ (x : ℕ). nonzero (x % 2)) (or-shr a b i ∙ or-step p q)
+    ∙ ap nonzero (digits-mod (bitOr (p / 2) (q / 2)) (omega (arith, low-two p, low-two q)))
+    ∙ nonzero-max (p % 2) (q % 2)
+
+differ-lt : (x y : ℕ) → x < 2 → y < 2 → differ x y < 2
+differ-lt zero y hx hy = hy
+differ-lt (suc zero) zero hx hy = hx
+differ-lt (suc zero) (suc zero) hx hy = omega arith
+differ-lt (suc zero) (suc (suc y)) hx hy = absurd (omega arith)
+differ-lt (suc (suc x)) y hx hy = absurd (omega arith)
+
+pub bit-xor : (a b i : ℕ) → bit (bitXor a b) i ≡ differs (bit a i) (bit b i)
+unfolding bit
+bit-xor a b i =
+    let p = a / 2 ^ i in
+    let q = b / 2 ^ i in
+    ap (λ (x : ℕ). nonzero (x % 2)) (xor-shr a b i ∙ xor-step p q)
+    ∙ ap nonzero (digits-mod (bitXor (p / 2) (q / 2)) (differ-lt (p % 2) (q % 2) (low-two p) (low-two q)))
+    ∙ nonzero-differ (p % 2) (q % 2) (low-two p) (low-two q)
+
+-- `!m` of a word of n bits, which is `(2 ^ n - 1) - m`
+number-not : (n : ℕ) (f : ℕ → Bool) → suc (number n f + number n (λ i. not (f i))) ≡ 2 ^ n
+unfolding number
+number-not zero f = refl
+number-not (suc n) f = go (f n) (number-not n f)
+  where
+    go : (b : Bool) → suc (number n f + number n (λ i. not (f i))) ≡ 2 ^ n
+        → suc ((number n f + digit b * 2 ^ n) + (number n (λ i. not (f i)) + digit (not b) * 2 ^ n)) ≡ 2 ^ suc n
+    go true h = omega (arith, pow-suc 2 n)
+    go false h = omega (arith, pow-suc 2 n)
+
+pub not-number : (n m : ℕ) → m < 2 ^ n → (2 ^ n - 1) - m ≡ number n (λ i. not (bit m i))
+not-number n m h = omega (arith, number-not n (bit m), number-bit n m h)
+
+pub bit-not : (n m i : ℕ) → m < 2 ^ n → i < n → bit ((2 ^ n - 1) - m) i ≡ not (bit m i)
+bit-not n m i h k = ap (λ (x : ℕ). bit x i) (not-number n m h) ∙ bit-number n (λ j. not (bit m j)) i k
+
+-- the words joined by or
+pub or-number : (n : ℕ) (f g : ℕ → Bool) → bitOr (number n f) (number n g) ≡ number n (λ i. f i || g i)
+or-number n f g =
+    bit-ext n (bitOr (number n f) (number n g)) (number n (λ i. f i || g i))
+    (or-lt n (number n f) (number n g) (number-lt n f) (number-lt n g)) (number-lt n (λ i. f i || g i))
+    (λ i h. bit-or (number n f) (number n g) i ∙ ap₂ (λ (x y : Bool). x || y) (bit-number n f i h) (bit-number n g i h)
+    ∙ sym (bit-number n (λ j. f j || g j) i h))
+
+-- one bit more, as a loop adds it
+pub number-more : (f : ℕ → Bool) (i acc r : ℕ) (b : Bool) → acc ≡ number i f → b ≡ f i → r ≡ acc + digit b * 2 ^ i → r ≡ number (i + 1) f
+unfolding number
+number-more f i acc r b p q e =
+    e ∙ ap₂ (λ (x : ℕ) (t : Bool). x + digit t * 2 ^ i) p q ∙ ap (λ (k : ℕ). number k f) (sym (add-one i))
+
+pub number-below : (f : ℕ → Bool) (i acc : ℕ) → acc ≡ number i f → acc < 2 ^ i
+number-below f i acc p = subst (λ (x : ℕ). x < 2 ^ i) (sym p) (number-lt i f)
+
+-- nothing is left above n bits exactly when the number fits them
+pub shifted-out : (v n : ℕ) → eqb (v / 2 ^ n) 0 ≡ ltb v (2 ^ n)
+shifted-out v n = go (decLt v (2 ^ n))
+  where
+    go : Dec (v < 2 ^ n) → eqb (v / 2 ^ n) 0 ≡ ltb v (2 ^ n)
+    go (yes h) = eq-eqb (v / 2 ^ n) 0 (div-eq-of-lt h) ∙ sym (lt-ltb v (2 ^ n) h)
+    go (no h) =
+        let k : 2 ^ n ≤ v = omega arith in
+        let one : 1 ≤ v / 2 ^ n = le-div-iff-mul-le (pow-pos n) .1 (omega arith) in
+        ne-eqb (v / 2 ^ n) 0 (λ e. let z : _≡_ {A = ℕ} 0 1 = absurd (omega arith) in omega arith) ∙ sym (le-ltb v (2 ^ n) k)
+
+pub number-zero : (f : ℕ → Bool) → 0 ≡ number 0 f
+unfolding number
+number-zero f = refl

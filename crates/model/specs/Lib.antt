@@ -1,0 +1,3 @@
+pub mod Model
+pub mod Lists
+pub mod Repeats

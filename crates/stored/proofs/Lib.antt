@@ -1,0 +1,5 @@
+pub mod Tests
+pub mod Accesses
+pub mod Reach
+pub mod FieldBits
+pub mod Below
