@@ -1,8 +1,8 @@
 -- Laws of what is judged at a closing brace, in the form that the proofs use.
 use mathlib.Core.Bool.{Bool, true, false}
 use mathlib.Core.Path.{_≡_, refl, sym, _∙_}
-use mathlib.Core.List.{List, []}
-use Prim.Native.Nat.{ℕ, _+_, _-_, _*_, _<_, _≤_}
+use mathlib.Core.List.{List, [], _∷_, _++_, append-assoc, append-nil}
+use Prim.Native.Nat.{ℕ, suc, _+_, _-_, _*_, _<_, _≤_}
 use native.Mathlib.Numerals.{add-one}
 use native.Mathlib.Omega.{arith}
 use lib.Dec.{eqb}
@@ -18,6 +18,7 @@ use Rattle.suffixes.specs.Suffixes.{instanceFault}
 use Rattle.suffixes.specs.declared.Fault.{Fault}
 use Rattle.suffixes.specs.declared.Fault.the-variants.{Sound, Broken}
 use Rattle.properties.specs.declared.Given.{Given}
+use Rattle.components.specs.Components.{kindOf}
 use Rattle.components.specs.Fields.{fieldAt, widthIn}
 use Rattle.components.specs.declared.BitPlace.{BitPlace}
 use Rattle.components.specs.declared.FieldType.{FieldType}
@@ -30,10 +31,12 @@ use Rattle.components.specs.declared.Probe.the-variants.{Wide, Outside, Overlap
 use Rattle.components.proofs.Laws.{sound-width, sound-high}
 use Rattle.table.specs.Cells.{cellOf, componentIn, placeIn, rowIn}
 use Rattle.table.specs.Definitions.{Child, Definition, definitionOf}
+use Rattle.table.specs.Relation.{IsEntry}
 use Rattle.closing.specs.declared.Placed.{Placed}
 use Rattle.closing.specs.declared.Placed.the-variants as placed
 use Rattle.closing.specs.Registers.{placement, bitAbove, withPlaced, fieldsFrom, firstBit, some, overlaps, registerFault, isEmpty, closingFault}
-use Rattle.closing.specs.Relation.{Stored, stored-end, stored-on, topOf, PlacedAs, FieldIn, breaksIn, overlapsLater, missingFault, AnyField, LaterOverlap, AnyOverlap, RegisterBreaks, Closes}
+use Rattle.closing.specs.Relation.{Stored, stored-end, stored-on, topOf, PlacedAs, FieldIn, breaksIn, overlapsEarlier, missingFault, AnyField, EarlierOverlap, AnyOverlap, RegisterBreaks, Closes}
+use Rattle.closing.proofs.Overlaps.{overlaps-last, overlaps-kept}
 
 -- the instance of a field
 pub place-width : (i : Instance) {e : Fault} → e ≡ instanceFault kind.Field i → e ≡ Sound → (1 ≤ widthIn (i .array)) × (widthIn (i .array) ≤ 64)
@@ -84,9 +87,9 @@ field-top p e h = rw e at h
 pub above-field : (p : Placed) (next : BitPlace) {f : FieldAt} → p ≡ placed.Field f → record { 0 = f .high .0 + 1 } ≡ bitAbove p next
 above-field p next e = rw (e, add-one)
 
-above-low : (p : Placed) (next : BitPlace) → topOf p ≤ next .0 + 63 → bitAbove p next .0 ≤ next .0 + 64
-above-low (placed.Field f) next h = omega arith
-above-low placed.Other next h = omega arith
+above-fits : (p : Placed) (next : BitPlace) {to i : ℕ} → i < to → topOf p ≤ next .0 + 63 → next .0 + 64 * (to - i) < 4294967296 → bitAbove p next .0 + 64 * (to - (i + 1)) < 4294967296
+above-fits (placed.Field f) next h m l = omega arith
+above-fits placed.Other next h m l = omega arith
 
 -- what is asked of the fields, with one more before them
 some-here : (probe : Probe) (p : Placed) (fs : List FieldAt) → breaksIn probe p ≡ true → true ≡ some probe (withPlaced p fs)
@@ -99,65 +102,71 @@ unfolding some
 some-next probe (placed.Field f) fs e = rw e
 some-next probe placed.Other fs e = refl
 
-overlap-now : (p : Placed) (fs : List FieldAt) → true ≡ overlapsLater p fs → true ≡ overlaps (withPlaced p fs)
-unfolding overlaps
-overlap-now (placed.Field f) fs e = rw (← e)
-overlap-now placed.Other fs e = absurd (let z : _≡_ {A = ℕ} 0 1 = cc in omega arith)
+-- fields with one more behind them
+placed-last : (fs : List FieldAt) (p : Placed) (gs : List FieldAt) → fs ++ withPlaced p gs ≡ (fs ++ withPlaced p []) ++ gs
+placed-last fs (placed.Field f) gs = sym (append-assoc fs (f ∷ []) gs)
+placed-last fs placed.Other gs = rw (append-nil fs)
 
-overlap-next : (p : Placed) (fs : List FieldAt) → false ≡ overlapsLater p fs → overlaps (withPlaced p fs) ≡ overlaps fs
-unfolding overlaps
-overlap-next (placed.Field f) fs e = rw (← e)
-overlap-next placed.Other fs e = refl
+overlap-last : (fs : List FieldAt) (p : Placed) {b : Bool} → b ≡ overlapsEarlier p fs → overlaps fs ≡ false → overlaps (fs ++ withPlaced p []) ≡ b
+overlap-last fs (placed.Field f) e h = overlaps-last fs f ∙ (rw (h, e))
+overlap-last fs placed.Other e h = rw (append-nil fs, e) h
 
--- the instances behind the first, and the fields of all
-record Rest (text t : List ℕ) (table : List Definition) (to i : ℕ) (p : Placed) (next : BitPlace) (fields : List FieldAt) : Type 0 where
+-- one more instance behind those that stand there
+stored-last : {text t : List ℕ} {table : List Definition} {from i : ℕ} {cs : List Child} {c : Child} → Stored text t table i from cs → IsEntry text (cellOf t i) c
+    → componentIn t (c .type) ≡ definitionOf table (c .type) .component
+    → instanceFault (kindOf (definitionOf table (c .type) .component)) (c .instance) ≡ Sound
+    → Stored text t table (suc i) from (cs ++ (c ∷ []))
+stored-last {i = i} stored-end k g s = stored-on {i = i} (omega arith) k g s stored-end
+stored-last (stored-on {i = j} l m n o r) k g s = stored-on {i = j} (omega arith) m n o (stored-last r k g s)
+
+-- the first instance with those behind it, and the fields of all
+record Rest (text t : List ℕ) (table : List Definition) (to i : ℕ) (p : Placed) (next : BitPlace) (cs : List Child) : Type 0 where
+  child : Child
   children : List Child
+  whole : cs ≡ child ∷ children
+  last : {from : ℕ} {before : List Child} → Stored text t table i from before → Stored text t table (i + 1) from (before ++ (child ∷ []))
   stored : Stored text t table to (i + 1) children
-  same : fields ≡ withPlaced p (fieldsFrom table (bitAbove p next) children)
+  onto : (rest : List Child) → fieldsFrom table next (child ∷ rest) ≡ withPlaced p (fieldsFrom table (bitAbove p next) rest)
+  same : fieldsFrom table next cs ≡ withPlaced p (fieldsFrom table (bitAbove p next) children)
 
 rest-of : {text t : List ℕ} {table : List Definition} {to i x : ℕ} {cs : List Child} {p : Placed} {next : BitPlace} → i < to → x ≡ cellOf t i → FieldIn text t x next p → Stored text t table to i cs
-    → Rest text t table to i p next (fieldsFrom table next cs)
+    → Rest text t table to i p next cs
 unfolding fieldsFrom
 rest-of h e f stored-end = absurd (omega arith)
 rest-of {table = table} {p = p} {next = next} h e f (stored-on {i = i} {c = c} {cs = cs} l k g s r) =
     let q : p ≡ placement (definitionOf table (c .type) .component) next (c .instance) = f .each c (definitionOf table (c .type) .component) (rw e k) g s in
-    record { children = cs; stored = rw add-one r; same = rw (← q) }
+    record { child = c; children = cs; whole = refl; last = λ b. rw add-one (stored-last b k g s); stored = rw add-one r; onto = λ rest. rw (← q); same = rw (← q) }
 
 -- the instances that are left, and what is asked of their fields
-pub record Left (text t : List ℕ) (table : List Definition) (to : ℕ) (ask : List FieldAt → Bool) (i : ℕ) (next : BitPlace) (answer : Bool) : Type 0 where
+pub record Left (text t : List ℕ) (table : List Definition) (to : ℕ) (probe : Probe) (i : ℕ) (next : BitPlace) (answer : Bool) : Type 0 where
   pub children : List Child
   pub stored : Stored text t table to i children
-  pub same : ask (fieldsFrom table next children) ≡ answer
+  pub same : some probe (fieldsFrom table next children) ≡ answer
 
-pub record Asking (text t : List ℕ) (from to : ℕ) (first : BitPlace) (ask : List FieldAt → Bool) (i : ℕ) (next : BitPlace) : Type 0 where
+pub record Asking (text t : List ℕ) (from to : ℕ) (first : BitPlace) (probe : Probe) (i : ℕ) (next : BitPlace) : Type 0 where
   pub low : next .0 + 64 * (to - i) < 4294967296
-  pub each : (table : List Definition) (cs : List Child) → Stored text t table to from cs → Left text t table to ask i next (ask (fieldsFrom table first cs))
+  pub each : (table : List Definition) (cs : List Child) → Stored text t table to from cs → Left text t table to probe i next (some probe (fieldsFrom table first cs))
 
-none-left : {text t : List ℕ} {table : List Definition} {to i : ℕ} {cs : List Child} {x : Bool} (ask : List FieldAt → Bool) (next : BitPlace) → false ≡ ask [] → to ≤ i → Stored text t table to i cs → ask (fieldsFrom table next cs) ≡ x → false ≡ x
+none-left : {text t : List ℕ} {table : List Definition} {to i : ℕ} {cs : List Child} (next : BitPlace) → to ≤ i → Stored text t table to i cs → fieldsFrom table next cs ≡ []
 unfolding fieldsFrom
-none-left ask next n h stored-end e = n ∙ e
-none-left ask next n h (stored-on l k g s r) e = absurd (omega arith)
-
-module _ (text t : List ℕ) (from to : ℕ) (first : BitPlace) where
-  pub ask-start : (ask : List FieldAt → Bool) → first .0 + 64 * (to - from) < 4294967296 → Asking text t from to first ask from first
-  ask-start ask h = record { low = h; each = λ table cs s. record { children = cs; stored = s; same = refl } }
-
-  module _ {ask : List FieldAt → Bool} {i : ℕ} {next : BitPlace} (s : Asking text t from to first ask i next) where
-    pub next-fits : next .0 < 4294967296
-    next-fits = let l = s .low in omega arith
-
-    module _ {x : ℕ} {p : Placed} (h : i < to) (f : FieldIn text t x next p) where
-      pub top-fits : topOf p < 4294967296
-      top-fits = let l = s .low in let m = f .top in omega arith
-
-      pub above-fits : {n : BitPlace} → n ≡ bitAbove p next → n .0 + 64 * (to - (i + 1)) < 4294967296
-      above-fits e = let l = s .low in let m = above-low p next (f .top) in rw e (omega arith)
+none-left next h stored-end = refl
+none-left next h (stored-on l k g s r) = absurd (omega arith)
 
 -- whether some field breaks a rule
-module _ (text t : List ℕ) (from to : ℕ) (first : BitPlace) (probe : Probe) {i : ℕ} {next : BitPlace} (s : Asking text t from to first (some probe) i next) where
+module _ (text t : List ℕ) (from to : ℕ) (first : BitPlace) (probe : Probe) where
+  pub ask-start : first .0 + 64 * (to - from) < 4294967296 → Asking text t from to first probe from first
+  ask-start h = record { low = h; each = λ table cs s. record { children = cs; stored = s; same = refl } }
+
+module _ (text t : List ℕ) (from to : ℕ) (first : BitPlace) (probe : Probe) {i : ℕ} {next : BitPlace} (s : Asking text t from to first probe i next) where
+  pub next-fits : next .0 < 4294967296
+  next-fits = let l = s .low in omega arith
+
+  pub top-fits : {x : ℕ} {p : Placed} → i < to → FieldIn text t x next p → topOf p < 4294967296
+  top-fits h f = let l = s .low in let m = f .top in omega arith
+
   pub find-end : to ≤ i → AnyField text t from to first probe false
   unfolding some
-  find-end h = record { each = λ table cs d. let l = s .each table cs d in none-left (some probe) next refl h (l .stored) (l .same) }
+  find-end h = record { each = λ table cs d. let l = s .each table cs d in rw (none-left next h (l .stored)) at (l .same) }
 
   module _ {x : ℕ} {p : Placed} {b : Bool} (h : i < to) (e : x ≡ cellOf t i) (f : FieldIn text t x next p) (g : b ≡ breaksIn probe p) where
     pub find-here : b ≡ true → AnyField text t from to first probe true
@@ -168,9 +177,9 @@ module _ (text t : List ℕ) (from to : ℕ) (first : BitPlace) (probe : Probe) 
           some-here probe p (fieldsFrom table (bitAbove p next) (r .children)) (sym g ∙ y) ∙ (rw (r .same) at (l .same));
     }
 
-    pub find-on : {n : BitPlace} → b ≡ false → n ≡ bitAbove p next → Asking text t from to first (some probe) (i + 1) n
+    pub find-on : {n : BitPlace} → b ≡ false → n ≡ bitAbove p next → Asking text t from to first probe (i + 1) n
     find-on y z = record {
-      low = above-fits text t from to first s h f z;
+      low = rw z (above-fits p next h (f .top) (s .low));
       each = λ table cs d.
           let l = s .each table cs d in
           let r = rest-of h e f (l .stored) in
@@ -178,40 +187,83 @@ module _ (text t : List ℕ) (from to : ℕ) (first : BitPlace) (probe : Probe) 
           record { children = r .children; stored = r .stored; same = rw z (sym w ∙ (rw (r .same) at (l .same))) };
     }
 
--- a field against the later ones
-module _ (text t : List ℕ) (from to : ℕ) (first : BitPlace) (p : Placed) where
-  pub later-field : {f : FieldAt} {b : Bool} → p ≡ placed.Field f → AnyField text t from to first (Overlap f) b → LaterOverlap text t from to first p b
-  later-field e h = record { each = λ table cs d. rw e (h .each table cs d) }
+-- a field against the earlier ones
+module _ (text t : List ℕ) (from to : ℕ) (p : Placed) where
+  pub earlier-field : {f : FieldAt} {b : Bool} → p ≡ placed.Field f → AnyField text t from to firstBit (Overlap f) b → EarlierOverlap text t from to p b
+  earlier-field e h = record { each = λ table cs d. rw e (h .each table cs d) }
 
-  pub later-other : p ≡ placed.Other → LaterOverlap text t from to first p false
-  later-other e = record { each = λ table cs d. rw e }
+  pub earlier-other : p ≡ placed.Other → EarlierOverlap text t from to p false
+  earlier-other e = record { each = λ table cs d. rw e }
 
--- whether some field overlaps a later one
-module _ (text t : List ℕ) (from to : ℕ) {i : ℕ} {next : BitPlace} (s : Asking text t from to firstBit overlaps i next) where
-  pub overlap-end : to ≤ i → AnyOverlap text t from to false
-  unfolding overlaps
-  overlap-end h = record { each = λ table cs d. let l = s .each table cs d in none-left overlaps next refl h (l .stored) (l .same) }
+-- the instances that are passed, of whose fields none overlaps another, and those that are left
+pub record Passed (text t : List ℕ) (table : List Definition) (from to i : ℕ) (next : BitPlace) (cs : List Child) : Type 0 where
+  pub passed : List Child
+  pub left : List Child
+  pub before : Stored text t table i from passed
+  pub behind : Stored text t table to i left
+  pub whole : cs ≡ passed ++ left
+  pub split : (rest : List Child) → fieldsFrom table firstBit (passed ++ rest) ≡ fieldsFrom table firstBit passed ++ fieldsFrom table next rest
+  pub apart : overlaps (fieldsFrom table firstBit passed) ≡ false
 
-  module _ {x : ℕ} {p : Placed} {n : BitPlace} {b : Bool} (h : i < to) (e : x ≡ cellOf t i) (f : FieldIn text t x next p) (z : n ≡ bitAbove p next) (g : LaterOverlap text t (i + 1) to n p b) where
-    pub overlap-here : b ≡ true → AnyOverlap text t from to true
-    overlap-here y = record {
-      each = λ table cs d.
-          let l = s .each table cs d in
-          let r = rest-of h e f (l .stored) in
-          let fields = fieldsFrom table (bitAbove p next) (r .children) in
-          overlap-now p fields (rw (← z) (sym y ∙ g .each table (r .children) (r .stored))) ∙ (rw (r .same) at (l .same));
+pub record Passing (text t : List ℕ) (from to i : ℕ) (next : BitPlace) : Type 0 where
+  pub low : next .0 + 64 * (to - i) < 4294967296
+  pub each : (table : List Definition) (cs : List Child) → Stored text t table to from cs → Passed text t table from to i next cs
+
+passed-on : {text t : List ℕ} {table : List Definition} {from to i : ℕ} {p : Placed} {next : BitPlace} {cs : List Child} (l : Passed text t table from to i next cs) → Rest text t table to i p next (l .left)
+    → false ≡ overlapsEarlier p (fieldsFrom table firstBit (l .passed)) → Passed text t table from to (i + 1) (bitAbove p next) cs
+unfolding fieldsFrom
+passed-on {table = table} {p = p} {next = next} l r e =
+    let c = r .child in
+    let fields = fieldsFrom table firstBit (l .passed) in
+    record {
+      passed = l .passed ++ (c ∷ []);
+      left = r .children;
+      before = r .last (l .before);
+      behind = r .stored;
+      whole = rw (l .whole, r .whole) (sym (append-assoc (l .passed) (c ∷ []) (r .children)));
+      split = λ rest. rw (append-assoc (l .passed) (c ∷ []) rest, l .split (c ∷ rest), l .split (c ∷ []), r .onto rest, r .onto []) (placed-last fields p (fieldsFrom table (bitAbove p next) rest));
+      apart = rw (l .split (c ∷ []), r .onto []) (overlap-last fields p e (l .apart));
     }
 
-    pub overlap-on : b ≡ false → Asking text t from to firstBit overlaps (i + 1) n
-    overlap-on y = record {
-      low = above-fits text t from to firstBit s h f z;
+-- whether some field overlaps an earlier one
+module _ (text t : List ℕ) (from to : ℕ) where
+  pub pass-start : to ≤ 131072 → Passing text t from to from firstBit
+  unfolding fieldsFrom overlaps
+  pass-start h = record { low = omega arith; each = λ table cs s. record { passed = []; left = cs; before = stored-end; behind = s; whole = refl; split = λ rest. refl; apart = refl } }
+
+  module _ {i : ℕ} {next : BitPlace} (s : Passing text t from to i next) where
+    pub pass-fits : next .0 < 4294967296
+    pass-fits = let l = s .low in omega arith
+
+    pub pass-top : {x : ℕ} {p : Placed} → i < to → FieldIn text t x next p → topOf p < 4294967296
+    pass-top h f = let l = s .low in let m = f .top in omega arith
+
+    pub overlap-end : to ≤ i → AnyOverlap text t from to false
+    overlap-end h = record {
       each = λ table cs d.
           let l = s .each table cs d in
-          let r = rest-of h e f (l .stored) in
-          let fields = fieldsFrom table (bitAbove p next) (r .children) in
-          let w = overlap-next p fields (rw (← z) (sym y ∙ g .each table (r .children) (r .stored))) in
-          record { children = r .children; stored = r .stored; same = rw z (sym w ∙ (rw (r .same) at (l .same))) };
+          rw (l .whole, l .split (l .left), none-left next h (l .behind), append-nil (fieldsFrom table firstBit (l .passed))) (sym (l .apart));
     }
+
+    module _ {x : ℕ} {p : Placed} {b : Bool} (h : i < to) (e : x ≡ cellOf t i) (f : FieldIn text t x next p) (g : EarlierOverlap text t from i p b) where
+      pub overlap-here : b ≡ true → AnyOverlap text t from to true
+      overlap-here y = record {
+        each = λ table cs d.
+            let l = s .each table cs d in
+            let r = rest-of h e f (l .behind) in
+            let fields = fieldsFrom table firstBit (l .passed) in
+            let rest = fieldsFrom table (bitAbove p next) (r .children) in
+            let w = overlap-last fields p (g .each table (l .passed) (l .before)) (l .apart) ∙ y in
+            rw (l .whole, l .split (l .left), r .same, placed-last fields p rest) (sym (overlaps-kept (fields ++ withPlaced p []) rest w));
+      }
+
+      pub overlap-on : {n : BitPlace} → b ≡ false → n ≡ bitAbove p next → Passing text t from to (i + 1) n
+      overlap-on y z = record {
+        low = rw z (above-fits p next h (f .top) (s .low));
+        each = λ table cs d.
+            let l = s .each table cs d in
+            rw z (passed-on l (rest-of h e f (l .behind)) (sym y ∙ g .each table (l .passed) (l .before)));
+      }
 
 -- 13 to 17
 module _ (text t : List ℕ) (from to : ℕ) (reg : Register) {a : Bool} (wide : AnyField text t from to firstBit Wide a) where

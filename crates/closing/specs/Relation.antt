@@ -50,20 +50,20 @@ abbrev pub breaksIn : Probe → Placed → Bool
 breaksIn probe (placed.Field f) = breaks probe f
 breaksIn probe placed.Other = false
 
--- whether a field overlaps one of these
-abbrev pub overlapsLater : Placed → List FieldAt → Bool
-overlapsLater (placed.Field f) fs = some (Overlap f) fs
-overlapsLater placed.Other fs = false
+-- whether a field overlaps one of these, which stand before it
+abbrev pub overlapsEarlier : Placed → List FieldAt → Bool
+overlapsEarlier (placed.Field f) fs = some (Overlap f) fs
+overlapsEarlier placed.Other fs = false
 
 abbrev pub missingFault : ℕ → ℕ → ℕ
 missingFault from to = if eqb from to then 10 else 0
 
--- what `any_field`, `any_overlap` and `closing_fault` answer, for all instances that stand there
+-- what `any_field`, `overlaps_earlier`, `any_overlap` and `closing_fault` answer, for all instances that stand there
 pub record AnyField (text t : List ℕ) (from to : ℕ) (first : BitPlace) (probe : Probe) (answer : Bool) : Type 0 where
   pub each : (table : List Definition) (cs : List Child) → Stored text t table to from cs → answer ≡ some probe (fieldsFrom table first cs)
 
-pub record LaterOverlap (text t : List ℕ) (from to : ℕ) (first : BitPlace) (p : Placed) (answer : Bool) : Type 0 where
-  pub each : (table : List Definition) (cs : List Child) → Stored text t table to from cs → answer ≡ overlapsLater p (fieldsFrom table first cs)
+pub record EarlierOverlap (text t : List ℕ) (from to : ℕ) (p : Placed) (answer : Bool) : Type 0 where
+  pub each : (table : List Definition) (cs : List Child) → Stored text t table to from cs → answer ≡ overlapsEarlier p (fieldsOf table cs)
 
 pub record AnyOverlap (text t : List ℕ) (from to : ℕ) (answer : Bool) : Type 0 where
   pub each : (table : List Definition) (cs : List Child) → Stored text t table to from cs → answer ≡ overlaps (fieldsOf table cs)

@@ -13,7 +13,7 @@ ghost use mathlib.Core.Path.{_≡_};
 ghost use mathlib.Core.List.{[]};
 ghost use Prim.Native.Nat.{_+_, _-_, _*_, _≤_, _<_};
 ghost use Rattle.closing.specs.Registers.{bitAbove, closingFault};
-ghost use Rattle.closing.specs.Relation.{topOf, PlacedAs, FieldIn, breaksIn, missingFault, AnyField, LaterOverlap, AnyOverlap, RegisterBreaks, Closes};
+ghost use Rattle.closing.specs.Relation.{topOf, PlacedAs, FieldIn, breaksIn, missingFault, AnyField, EarlierOverlap, AnyOverlap, RegisterBreaks, Closes};
 
 // A field of a register, or an instance that is none.
 pub enum Placed {
@@ -103,25 +103,21 @@ fn any_field(
     false
 }
 
-// Whether a field overlaps a later one unlawfully; the cells hold the later ones, the first from the bit `first` on.
-fn overlaps_later(
-    text: &[u8],
-    cells: &[u64],
-    from: usize,
-    to: usize,
-    first: BitPlace,
-    placed: Placed,
-) -> bool
-    requires { ⌜ (to ≤ 131072) × (first .0 + 64 * (to - from) < 4294967296) ⌝ }
-    ensures { λ r. ⌜ LaterOverlap (now (text .entry)) (now (cells .entry)) from to first placed r ⌝ }
+// Whether a field overlaps an earlier one of its register unlawfully; the cells from one up to another hold the earlier ones.
+fn overlaps_earlier(text: &[u8], cells: &[u64], from: usize, to: usize, placed: Placed) -> bool
+    requires { ⌜ to ≤ 131072 ⌝ }
+    ensures { λ r. ⌜ EarlierOverlap (now (text .entry)) (now (cells .entry)) from to placed r ⌝ }
 {
     match placed {
-        Placed::Field(field) => any_field(text, cells, from, to, first, Probe::Overlap(field)),
+        Placed::Field(field) => {
+            any_field(text, cells, from, to, BitPlace(0), Probe::Overlap(field))
+        }
         Placed::Other => false,
     }
 }
 
-// Whether some field of a register overlaps a later one unlawfully.
+// Whether some field of a register overlaps an earlier one unlawfully. At most two fields share a bit lawfully, so within 64 bits the first
+// 129 fields settle it, however many there are.
 fn any_overlap(text: &[u8], cells: &[u64], from: usize, to: usize) -> bool
     requires { ⌜ to ≤ 131072 ⌝ }
     ensures { λ r. ⌜ AnyOverlap (now (text .entry)) (now (cells .entry)) from to r ⌝ }
@@ -130,11 +126,11 @@ fn any_overlap(text: &[u8], cells: &[u64], from: usize, to: usize) -> bool
     let mut next = BitPlace(0);
     while i < to {
         let placed = field_in(text, cells, table::cell(cells, i), next);
-        next = bit_above(placed, next);
-        i += 1;
-        if overlaps_later(text, cells, i, to, next, placed) {
+        if overlaps_earlier(text, cells, from, i, placed) {
             return true;
         }
+        next = bit_above(placed, next);
+        i += 1;
     }
     false
 }

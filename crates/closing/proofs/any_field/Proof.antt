@@ -1,13 +1,12 @@
 -- For all instances that stand there, some field of those left to look at breaks the rule exactly when one of all does.
 use borrow.Author.Needs.{needs}
 use Prim.Native.Nat.{_-_}
-use Rattle.closing.specs.Registers.{some}
 use Rattle.closing.proofs.Laws.{Asking, ask-start, next-fits, top-fits, find-here, find-on, find-end}
 use Rattle.closing.proofs.any_field.Statement.{statement}
 use Rattle.closing.proofs.any_field.Tie as tie
 
 abbrev Inv-loop : tie.InvT-loop
-Inv-loop text cells from to probe i₀ next₀ i next = Asking text cells from to next₀ (some probe) i next
+Inv-loop text cells from to probe i₀ next₀ i next = Asking text cells from to next₀ probe i next
 
 abbrev μ-loop : tie.MeasureT-loop
 μ-loop text cells from to probe i₀ next₀ i next = to - i

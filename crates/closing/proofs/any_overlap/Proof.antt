@@ -1,13 +1,12 @@
--- For all instances that stand there, fields of those left to look at overlap exactly when fields of all do.
+-- For all instances that stand there, no fields of those passed overlap.
 use borrow.Author.Needs.{needs}
 use Prim.Native.Nat.{_-_}
-use Rattle.closing.specs.Registers.{firstBit, overlaps}
-use Rattle.closing.proofs.Laws.{Asking, ask-start, next-fits, top-fits, above-fits, overlap-here, overlap-on, overlap-end}
+use Rattle.closing.proofs.Laws.{Passing, pass-start, pass-fits, pass-top, overlap-here, overlap-on, overlap-end}
 use Rattle.closing.proofs.any_overlap.Statement.{statement}
 use Rattle.closing.proofs.any_overlap.Tie as tie
 
 abbrev Inv-loop : tie.InvT-loop
-Inv-loop text cells from to i₀ next₀ i next = Asking text cells from to firstBit overlaps i next
+Inv-loop text cells from to i₀ next₀ i next = Passing text cells from to i next
 
 abbrev μ-loop : tie.MeasureT-loop
 μ-loop text cells from to i₀ next₀ i next = to - i
@@ -18,13 +17,13 @@ any-overlap-spec =
     (tie.spec
     Inv-loop
     μ-loop
-    (λ c. search (needs, ask-start))
+    (λ c. search (needs, pass-start))
     (λ c κs. search needs)
-    (λ c κs. search (needs, next-fits))
-    (λ c κs. search (needs, top-fits))
-    (λ c. search needs)
-    (λ c κs. search (needs, above-fits))
+    (λ c κs. search (needs, pass-fits))
+    (λ c κs. search needs)
     (λ c. search overlap-here)
+    (λ c κs. search (needs, pass-top))
+    (λ c. search needs)
     (λ c. search needs)
     (λ c. search overlap-on)
     (λ c. search overlap-end))
