@@ -26,29 +26,29 @@ use Rattle.walk.specs.Walks.{Small, Trails, Walks, visitOf, ElementWalks
 use Rattle.walk.proofs.Runs.{Onto, onto-start, onto-end, onto-on, onto-fault}
 use Rattle.walk.proofs.Contents.{small-same, small-none}
 
--- an element of an instance
+-- an element of an instance, by its index and its address
 abbrev pub elementOf : Kid → ℕ → ℕ → Element
-elementOf kid i address = record { row = kid .row; name = kid .instance .name; index = i; address = address; short = kid .short }
+elementOf kid k address = record { row = kid .row; name = kid .instance .name; index = indexCode (indexIn (kid .instance .array) k); address = address; short = kid .short }
 
 -- where the element of an index is
 abbrev placeOf : ℕ → Laid → ℕ → ℕ
 placeOf base l k = base + (l .start .0 + l .stride * k)
 
 -- an element and its content, as they are walked over
-abbrev elementWith : ℕ → ℕ → List Definition → List Shape → Kid → ℕ → ℕ → List PathStep → ℕ → ℕ → List Visit
-elementWith levels m table shapes kid i address path k place =
-    visitOf (elementOf kid i address) path (indexIn (kid .instance .array) k) place ∷
+abbrev elementWith : ℕ → ℕ → List Definition → List Shape → Kid → List PathStep → ℕ → ℕ → List Visit
+elementWith levels m table shapes kid path k place =
+    visitOf (elementOf kid k place) path (indexIn (kid .instance .array) k) place ∷
     visitsIn levels m table shapes (kid .row) place (path ++ (record { name = kid .instance .name; index = indexIn (kid .instance .array) k } ∷ []))
 
 elements-none : (content : ℕ → List PathStep → List Visit) (path : List PathStep) (c : Child) (base : ℕ) (s : Shape) (l : Laid) (k : ℕ) {n : ℕ} → n ≡ 0 → elementVisits content path c base s l k n ≡ []
 unfolding elementVisits
 elements-none content path c base s l k e = rw e
 
-elements-more : (levels m : ℕ) (table : List Definition) (shapes : List Shape) {kid : Kid} (i address : ℕ) (path : List PathStep) (c : Child) (base : ℕ) {s : Shape} (l : Laid) (k : ℕ) {n r : ℕ} → KidOf kid c s l base → n ≡ suc r
+elements-more : (levels m : ℕ) (table : List Definition) (shapes : List Shape) {kid : Kid} (path : List PathStep) (c : Child) (base : ℕ) {s : Shape} (l : Laid) (k : ℕ) {n r : ℕ} → KidOf kid c s l base → n ≡ suc r
     → elementVisits (visitsIn levels m table shapes (c .type)) path c base s l k n
-    ≡ elementWith levels m table shapes kid i address path k (placeOf base l k) ++ elementVisits (visitsIn levels m table shapes (c .type)) path c base s l (suc k) r
+    ≡ elementWith levels m table shapes kid path k (placeOf base l k) ++ elementVisits (visitsIn levels m table shapes (c .type)) path c base s l (suc k) r
 unfolding elementVisits
-elements-more levels m table shapes i address path c base l k o e = rw (e, o .row, o .instance, o .short)
+elements-more levels m table shapes path c base l k o e = rw (e, o .row, o .instance, o .short)
 
 pub record ArrayLeft (text t before : List ℕ) (e : Extent) (levels : ℕ) (start : Tally) (k address : ℕ) (tally : Tally) (log : List ℕ) (path : List PathStep) (c : Child) (l : Laid) (base : ℕ) : Type 0 where
   pub place : address ≡ cut (base + (l .start .0 + l .stride * k))
@@ -77,6 +77,10 @@ module _ (text t before : List ℕ) (e : Extent) (levels : ℕ) (kid : Kid) (tra
             record { place = rw z (o .address); onto = rw n onto-start };
       }
 
+  pub element-fits : {k address : ℕ} {tally : Tally} {log : List ℕ} → Arraying text t before e levels kid trail start k address tally log
+      → KidFits e kid → {x : Element} → x ≡ elementOf kid k address → (x .row < e .rows) × (x .address ≤ cap)
+  element-fits g f q = rw q (f .row, g .low)
+
   module _ {k address : ℕ} {tally : Tally} {log : List ℕ} (g : Arraying text t before e levels kid trail start k address tally log) {count : ℕ} (m : count ≡ elements (kid .instance .array)) where
     pub array-end : count ≤ k → ArrayWalks text t before log e levels kid trail start (walked.On tally)
     array-end h =
@@ -96,30 +100,29 @@ module _ (text t before : List ℕ) (e : Extent) (levels : ℕ) (kid : Kid) (tra
       pub array-falls : count - (k + 1) < count - k
       array-falls = omega (arith, h)
 
-    module _ (h : k < count) {i : ℕ} (q : i ≡ indexCode (indexIn (kid .instance .array) k)) {after : List ℕ} {r : Walked}
-        (w : ElementWalks text t log after e levels (record { row = kid .row; name = kid .instance .name; index = i; address = address; short = kid .short }) trail tally r) where
+    module _ (h : k < count) {x : Element} (q : x ≡ elementOf kid k address) {after : List ℕ} {r : Walked} (w : ElementWalks text t log after e levels x trail tally r) where
       -- what is left, with the next element first
       next : (path : List PathStep) (c : Child) (l : Laid) (base : ℕ) → Trails trail path → KidOf kid c (shapeAt (allShapes text t e) (c .type)) l base
           → Onto (known text t e) (allShapes text t e) before start
           (elementVisits (visitsIn levels (e .mode) (known text t e) (allShapes text t e) (c .type)) path c base (shapeAt (allShapes text t e) (c .type)) l 0 (elements (c .instance .array)))
           log tally
-          (elementWith levels (e .mode) (known text t e) (allShapes text t e) kid i address path k (base + (l .start .0 + l .stride * k)) ++
+          (elementWith levels (e .mode) (known text t e) (allShapes text t e) kid path k (base + (l .start .0 + l .stride * k)) ++
           elementVisits (visitsIn levels (e .mode) (known text t e) (allShapes text t e) (c .type)) path c base (shapeAt (allShapes text t e) (c .type)) l (suc k) (elements (c .instance .array) - suc k))
       next path c l base tr o =
           let n : elements (c .instance .array) - k ≡ suc (elements (c .instance .array) - suc k) = rw (← o .instance, ← m) (omega (arith, h)) in
-          rw (elements-more levels (e .mode) (known text t e) (allShapes text t e) i address path c base l k o n) at (g .each path c l base tr o .onto)
+          rw (elements-more levels (e .mode) (known text t e) (allShapes text t e) path c base l k o n) at (g .each path c l base tr o .onto)
 
       walks : (path : List PathStep) (c : Child) (l : Laid) (base : ℕ) → Trails trail path → KidOf kid c (shapeAt (allShapes text t e) (c .type)) l base
           → Walks (known text t e) (allShapes text t e) log after tally
-          (elementWith levels (e .mode) (known text t e) (allShapes text t e) kid i address path k (base + (l .start .0 + l .stride * k))) r
-      walks path c l base tr o = w .each path (indexIn (kid .instance .array) k) (base + (l .start .0 + l .stride * k)) tr q (g .each path c l base tr o .place)
+          (elementWith levels (e .mode) (known text t e) (allShapes text t e) kid path k (base + (l .start .0 + l .stride * k))) r
+      walks path c l base tr o = (rw q at w) .each path (indexIn (kid .instance .array) k) (base + (l .start .0 + l .stride * k)) tr refl (g .each path c l base tr o .place)
 
       pub array-fault : {p : ℕ} → r ≡ walked.Fault p → ArrayWalks text t before after e levels kid trail start (walked.Fault p)
       array-fault f =
           record {
             small = small-none;
             each = λ path c l base tr o.
-                onto-fault (elementWith levels (e .mode) (known text t e) (allShapes text t e) kid i address path k (base + (l .start .0 + l .stride * k)))
+                onto-fault (elementWith levels (e .mode) (known text t e) (allShapes text t e) kid path k (base + (l .start .0 + l .stride * k)))
                 (elementVisits (visitsIn levels (e .mode) (known text t e) (allShapes text t e) (c .type)) path c base (shapeAt (allShapes text t e) (c .type)) l (suc k) (elements (c .instance .array) - suc k))
                 (next path c l base tr o) (walks path c l base tr o) f;
           }
@@ -141,7 +144,7 @@ module _ (text t before : List ℕ) (e : Extent) (levels : ℕ) (kid : Kid) (tra
                       ∙ ap (λ (n : ℕ). cut (cut (base + (l .start .0 + l .stride * k)) + n)) (o .stride)
                       ∙ cut-sum (base + (l .start .0 + l .stride * k)) (l .stride) ∙ ap cut p;
                   onto =
-                      onto-on (elementWith levels (e .mode) (known text t e) (allShapes text t e) kid i address path k (base + (l .start .0 + l .stride * k)))
+                      onto-on (elementWith levels (e .mode) (known text t e) (allShapes text t e) kid path k (base + (l .start .0 + l .stride * k)))
                       (elementVisits (visitsIn levels (e .mode) (known text t e) (allShapes text t e) (c .type)) path c base (shapeAt (allShapes text t e) (c .type)) l (suc k) (elements (c .instance .array) - suc k))
                       (next path c l base tr o) (walks path c l base tr o) f;
                 };

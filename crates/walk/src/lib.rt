@@ -345,6 +345,23 @@ fn walk_children(
     Walked::On(tally)
 }
 
+// An element of an instance, at an address.
+fn element_of(kid: Kid, k: u64, address: u64) -> Element
+    requires { ⌜ k < 4294967296 ⌝ }
+    ensures { λ r. ⌜ r ≡ record { row = kid .row; name = kid .instance .name; index = indexCode (indexIn (kid .instance .array) k); address = address; short = kid .short } ⌝ }
+{
+    let instance = kid.instance;
+    let array = instance.array;
+    let name = instance.name;
+    Element {
+        row: kid.row,
+        name,
+        index: index_of(array, k),
+        address,
+        short: kid.short,
+    }
+}
+
 // The elements of an instance.
 fn walk_array(
     text: &[u8],
@@ -362,30 +379,13 @@ fn walk_array(
 {
     let instance = kid.instance;
     let array = instance.array;
-    let name = instance.name;
     let count = layout::elements_of(array);
     let mut k = 0;
     let mut address = kid.address;
     let mut tally = start;
     while k < count {
-        let element = Element {
-            row: kid.row,
-            name,
-            index: index_of(array, k),
-            address,
-            short: kid.short,
-        };
-        match walk_element(
-            text,
-            cells,
-            shapes,
-            log,
-            extent,
-            levels,
-            element,
-            trail,
-            tally,
-        ) {
+        let item = element_of(kid, k, address);
+        match walk_element(text, cells, shapes, log, extent, levels, item, trail, tally) {
             Walked::Fault(place) => {
                 return Walked::Fault(place);
             }

@@ -1,7 +1,7 @@
 -- The walk over contents, instances, arrays and elements: four functions that call each other, the levels still allowed falling.
 use mathlib.Core.Path.{_∙_}
 use Rattle.walk.proofs.Contents.{content-none, content-field, content-register, regfile-row, map-row, content-group, element-deep, element-stops, element-goes}
-use Rattle.walk.proofs.Arrays.{Arraying, array-start, array-end, index-fits, array-falls, array-fault, array-on}
+use Rattle.walk.proofs.Arrays.{Arraying, array-start, array-end, element-fits, index-fits, array-falls, array-fault, array-on}
 use Rattle.walk.proofs.Bodies.{Walking, span-low, walking-start, walking-low, walking-end, walking-falls, walking-stop, walking-fits, walking-placed, walking-kid, walking-fault, walking-on}
 use Prim.Native.Nat.{ℕ, _+_, _-_, _*_, _<_}
 use borrow.Author.Needs.{needs}
@@ -31,7 +31,7 @@ use Rattle.table.proofs.component_at.Reads as component-at-reads
 use Rattle.table.proofs.place_in.Reads as place-in-reads
 use Rattle.table.proofs.row_in.Reads as row-in-reads
 use Rattle.walk.proofs.deeper.Reads as deeper-reads
-use Rattle.walk.proofs.index_of.Reads as index-of-reads
+use Rattle.walk.proofs.element_of.Reads as element-of-reads
 use Rattle.walk.proofs.kid_of.Reads as kid-of-reads
 use Rattle.walk.proofs.visit.Reads as visit-reads
 use Rattle.walk.proofs.+walk_array+walk_children+walk_content+walk_element.{statement}
@@ -82,7 +82,7 @@ walk-element-below t =
     and 4 walk-element-kinds.ps (falls 4 walk-element-kinds.ps _<_ μ-walk-element t) walk-element.Pre
 
 abbrev walk-array-claims : ℕ → walk-array-lts.Claims
-walk-array-claims t = (elements-of-reads.Asked, elements-of-reads.Learnt, index-of-reads.Asked, index-of-reads.Learnt, walk-element-below t, walk-element.Post, sum-reads.Asked, sum-reads.Learnt)
+walk-array-claims t = (elements-of-reads.Asked, elements-of-reads.Learnt, element-of-reads.Asked, element-of-reads.Learnt, walk-element-below t, walk-element.Post, sum-reads.Asked, sum-reads.Learnt)
 
 abbrev walk-children-claims : ℕ → walk-children-lts.Claims
 walk-children-claims t = (instances-of-reads.Asked, instances-of-reads.Learnt, cell-reads.Asked, cell-reads.Learnt, place-in-reads.Asked, place-in-reads.Learnt, read-instance-reads.Asked, read-instance-reads.Learnt, row-in-reads.Asked, row-in-reads.Learnt, shape-at-reads.Asked, shape-at-reads.Learnt, lay-reads.Asked, lay-reads.Learnt, kid-of-reads.Asked, kid-of-reads.Learnt, walk-array-below t, walk-array.Post)
@@ -94,38 +94,38 @@ abbrev walk-element-claims : ℕ → walk-element-lts.Claims
 walk-element-claims t = (deeper-reads.Asked, deeper-reads.Learnt, visit-reads.Asked, visit-reads.Learnt, walk-content-below t, walk-content.Post)
 
 abbrev walk-array-Inv-loop : walk-array-lts.InvT-loop
-walk-array-Inv-loop text cells shapes log₀ extent levels kid trail array name count k₀ address₀ tally₀ log k address tally =
+walk-array-Inv-loop text cells shapes log₀ extent levels kid trail count k₀ address₀ tally₀ log k address tally =
     Arraying text cells log₀ extent levels kid trail tally₀ k address tally log
 
 abbrev walk-array-μ-loop : walk-array-lts.MeasureT-loop
-walk-array-μ-loop text cells shapes log₀ extent levels kid trail array name count k₀ address₀ tally₀ log k address tally = count - k
+walk-array-μ-loop text cells shapes log₀ extent levels kid trail count k₀ address₀ tally₀ log k address tally = count - k
 
 walk-array-loop-holds : (t : ℕ) → walk-array-lts.Need-loop-holds (walk-array-claims t) (walk-array-at t) walk-array.Post walk-array-Inv-loop walk-array-μ-loop
-walk-array-loop-holds t c = array-start _ _ _ _ _ _ _ _ (c .before .before .before .before .before .before .before .pre .1 .1) (c .before .before .before .before .before .before .before .pre .1 .2)
+walk-array-loop-holds t c = array-start _ _ _ _ _ _ _ _ (c .before .before .before .before .before .before .pre .1 .1) (c .before .before .before .before .before .before .pre .1 .2)
 
-walk-array-index-of-requires : (t : ℕ) → walk-array-lts.Need-index-of-requires (walk-array-claims t) (walk-array-at t) walk-array.Post walk-array-Inv-loop walk-array-μ-loop
-walk-array-index-of-requires t c κs = index-fits _ _ _ _ _ _ _ _ (c .before .loop .inv) (c .before .before .elements-of .ensures) (c .loop-test .taken) (c .before .before .before .before .before .before .before .before .before .pre .1 .1)
+walk-array-element-of-requires : (t : ℕ) → walk-array-lts.Need-element-of-requires (walk-array-claims t) (walk-array-at t) walk-array.Post walk-array-Inv-loop walk-array-μ-loop
+walk-array-element-of-requires t c κs = index-fits _ _ _ _ _ _ _ _ (c .before .loop .inv) (c .before .before .elements-of .ensures) (c .loop-test .taken) (c .before .before .before .before .before .before .before .before .pre .1 .1)
 
 walk-array-walk-element-requires : (t : ℕ) → walk-array-lts.Need-walk-element-requires (walk-array-claims t) (walk-array-at t) walk-array.Post walk-array-Inv-loop walk-array-μ-loop
-walk-array-walk-element-requires t c κs = (omega (arith, c .before .before .before .before .before .before .before .before .before .before .before .pre .0), (c .before .before .before .before .before .before .before .before .before .before .before .pre .1 .0, c .before .before .before .before .before .before .before .before .before .before .before .pre .1 .1 .row, c .before .before .before .loop .inv .low, c .before .before .before .loop .inv .small, c .before .before .before .before .before .before .before .before .before .before .before .pre .1 .3))
+walk-array-walk-element-requires t c κs = let l = element-fits _ _ _ _ _ _ _ _ (c .before .before .before .loop .inv) (c .before .before .before .before .before .before .before .before .before .before .pre .1 .1) (c .before .element-of .ensures) in (omega (arith, c .before .before .before .before .before .before .before .before .before .before .pre .0), (c .before .before .before .before .before .before .before .before .before .before .pre .1 .0, l .0, l .1, c .before .before .before .loop .inv .small, c .before .before .before .before .before .before .before .before .before .before .pre .1 .3))
 
 walk-array-same-length : (t : ℕ) → walk-array-lts.Need-same-length (walk-array-claims t) (walk-array-at t) walk-array.Post walk-array-Inv-loop walk-array-μ-loop
 walk-array-same-length t c = c .before .before .before .before .before .walk-element .kept .1 .1 .1 .0 ∙ c .before .before .before .before .before .before .before .before .before .loop .inv .long
 
 walk-array-returns : (t : ℕ) → walk-array-lts.Need-returns (walk-array-claims t) (walk-array-at t) walk-array.Post walk-array-Inv-loop walk-array-μ-loop
-walk-array-returns t c = array-fault _ _ _ _ _ _ _ _ (c .before .before .before .before .before .before .before .before .before .loop .inv) (c .before .before .before .before .before .before .before .before .before .before .elements-of .ensures) (c .before .before .before .before .before .before .before .before .loop-test .taken) (c .before .before .before .before .before .before .before .index-of .ensures) (c .before .before .before .before .before .walk-element .ensures) (c .before .place .given .1)
+walk-array-returns t c = array-fault _ _ _ _ _ _ _ _ (c .before .before .before .before .before .before .before .before .before .loop .inv) (c .before .before .before .before .before .before .before .before .before .before .elements-of .ensures) (c .before .before .before .before .before .before .before .before .loop-test .taken) (c .before .before .before .before .before .before .before .element-of .ensures) (c .before .before .before .before .before .walk-element .ensures) (c .before .place .given .1)
 
 walk-array-sum-requires : (t : ℕ) → walk-array-lts.Need-sum-requires (walk-array-claims t) (walk-array-at t) walk-array.Post walk-array-Inv-loop walk-array-μ-loop
-walk-array-sum-requires t c κs = (c .before .before .before .before .before .before .before .before .before .loop .inv .low, c .before .before .before .before .before .before .before .before .before .before .before .before .before .before .before .before .before .pre .1 .1 .stride)
+walk-array-sum-requires t c κs = (c .before .before .before .before .before .before .before .before .before .loop .inv .low, c .before .before .before .before .before .before .before .before .before .before .before .before .before .before .before .before .pre .1 .1 .stride)
 
 walk-array-add-k : (t : ℕ) → walk-array-lts.Need-add-k (walk-array-claims t) (walk-array-at t) walk-array.Post walk-array-Inv-loop walk-array-μ-loop
-walk-array-add-k t c = let l = index-fits _ _ _ _ _ _ _ _ (c .before .before .before .before .before .before .before .before .before .before .loop .inv) (c .before .before .before .before .before .before .before .before .before .before .before .elements-of .ensures) (c .before .before .before .before .before .before .before .before .before .loop-test .taken) (c .before .before .before .before .before .before .before .before .before .before .before .before .before .before .before .before .before .before .pre .1 .1) in omega (arith, l)
+walk-array-add-k t c = let l = index-fits _ _ _ _ _ _ _ _ (c .before .before .before .before .before .before .before .before .before .before .loop .inv) (c .before .before .before .before .before .before .before .before .before .before .before .elements-of .ensures) (c .before .before .before .before .before .before .before .before .before .loop-test .taken) (c .before .before .before .before .before .before .before .before .before .before .before .before .before .before .before .before .before .pre .1 .1) in omega (arith, l)
 
 walk-array-loop-less : (t : ℕ) → walk-array-lts.Need-loop-less (walk-array-claims t) (walk-array-at t) walk-array.Post walk-array-Inv-loop walk-array-μ-loop
 walk-array-loop-less t c = array-falls _ _ _ _ _ _ _ _ (c .before .before .before .before .before .before .before .before .before .before .loop .inv) (c .before .before .before .before .before .before .before .before .before .before .before .elements-of .ensures) (c .before .before .before .before .before .before .before .before .before .loop-test .taken)
 
 walk-array-loop-again : (t : ℕ) → walk-array-lts.Need-loop-again (walk-array-claims t) (walk-array-at t) walk-array.Post walk-array-Inv-loop walk-array-μ-loop
-walk-array-loop-again t c = array-on _ _ _ _ _ _ _ _ (c .before .before .before .before .before .before .before .before .before .before .loop .inv) (c .before .before .before .before .before .before .before .before .before .before .before .elements-of .ensures) (c .before .before .before .before .before .before .before .before .before .loop-test .taken) (c .before .before .before .before .before .before .before .before .index-of .ensures) (c .before .before .before .before .before .before .walk-element .ensures) (c .before .before .before .before .before .before .walk-element .kept .1 .1 .1 .0) (c .before .before .next .given .1) (c .sum .ensures)
+walk-array-loop-again t c = array-on _ _ _ _ _ _ _ _ (c .before .before .before .before .before .before .before .before .before .before .loop .inv) (c .before .before .before .before .before .before .before .before .before .before .before .elements-of .ensures) (c .before .before .before .before .before .before .before .before .before .loop-test .taken) (c .before .before .before .before .before .before .before .before .element-of .ensures) (c .before .before .before .before .before .before .walk-element .ensures) (c .before .before .before .before .before .before .walk-element .kept .1 .1 .1 .0) (c .before .before .next .given .1) (c .sum .ensures)
 
 walk-array-same-length-2 : (t : ℕ) → walk-array-lts.Need-same-length-2 (walk-array-claims t) (walk-array-at t) walk-array.Post walk-array-Inv-loop walk-array-μ-loop
 walk-array-same-length-2 t c = c .before .loop .inv .long
@@ -230,7 +230,7 @@ pub +walk-array+walk-children+walk-content+walk-element-spec : {M : Type 1} → 
     walk-array-μ-loop
     (λ c κs. search needs)
     (walk-array-loop-holds t)
-    (walk-array-index-of-requires t)
+    (walk-array-element-of-requires t)
     (walk-array-walk-element-requires t)
     (λ c. search needs)
     (walk-array-same-length t)
