@@ -6,7 +6,7 @@ use Prim.Native.Nat.{ℕ, zero, suc, _+_, _*_, _/_, _^_}
 use native.Mathlib.Omega.{arith}
 use lib.Bits.{bitOr}
 use lib.ListN.{length, getD}
-use Rattle.chars.proofs.Laws.{and-left, and-right}
+use Rattle.chars.proofs.Laws.{and-left, and-right, or-false}
 use Rattle.components.specs.declared.Offset.{Offset}
 use Rattle.bits.specs.Bits.{bit, number}
 use Rattle.bits.proofs.BitLaws.{number-ext, or-number}
@@ -44,10 +44,6 @@ rows-joined a w t all i first (suc n) s word e =
     ∙ ap (λ (k : ℕ). joinedFrom a w rest k s (joinedFrom a w (rowFields r (t .fields)) (r .first) s word)) g
     ∙ sym (joined-join a w (rowFields r (t .fields)) rest (r .first) s word)
     ∙ ap (λ (k : ℕ). joinedFrom a w (rowFields r (t .fields) ++ rest) k s word) f
-
-or-false : (x : Bool) → x || false ≡ x
-or-false true = refl
-or-false false = refl
 
 or-assoc : (x y z : Bool) → ((x || y) || z) ≡ (x || (y || z))
 or-assoc true y z = refl

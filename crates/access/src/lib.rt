@@ -51,9 +51,9 @@ fn stored_field(row: RegisterRow, field: FieldAt) -> StoredField
 }
 
 // The numbers of a register's fields after an access that is answered.
-fn step_run(fields: &[u64], store: &mut [u64], x: Access, row: RegisterRow)
-    requires { ⌜ Runs (widthOf x) (now fields) row × (row .first + row .count ≤ length (now store)) ⌝ }
-    ensures { λ _. ⌜ now (store .exit) ≡ steppedFrom x (rowFields row (now (fields .entry))) (row .first) (now (store .entry)) ⌝ }
+fn step_run(fields: &[u64], store: &mut [u64], access: Access, row: RegisterRow)
+    requires { ⌜ Runs (widthOf access) (now fields) row × (row .first + row .count ≤ length (now store)) ⌝ }
+    ensures { λ _. ⌜ now (store .exit) ≡ steppedFrom access (rowFields row (now (fields .entry))) (row .first) (now (store .entry)) ⌝ }
 {
     let first = row.first as usize;
     let count = row.count as usize;
@@ -61,21 +61,21 @@ fn step_run(fields: &[u64], store: &mut [u64], x: Access, row: RegisterRow)
     while k < count {
         let j = first + k;
         let field = stored_field(row, rows::field_row(fields, j));
-        store[j] = stored::number_after(x, field, store[j]);
+        store[j] = stored::number_after(access, field, store[j]);
         k += 1;
     }
 }
 
 // The store after an access that is answered.
-fn step_rows(registers: &[u64], fields: &[u64], store: &mut [u64], x: Access)
-    requires { ⌜ Ready (widthOf x) (now registers) (now fields) × Stocked (now registers) (now store) ⌝ }
-    ensures { λ _. ⌜ now (store .exit) ≡ steppedRows x (now (registers .entry)) (now (fields .entry)) 0 (length (now (registers .entry)) / 14) (now (store .entry)) ⌝ }
+fn step_rows(registers: &[u64], fields: &[u64], store: &mut [u64], access: Access)
+    requires { ⌜ Ready (widthOf access) (now registers) (now fields) × Stocked (now registers) (now store) ⌝ }
+    ensures { λ _. ⌜ now (store .exit) ≡ steppedRows access (now (registers .entry)) (now (fields .entry)) 0 (length (now (registers .entry)) / 14) (now (store .entry)) ⌝ }
 {
     let count = registers.len() / rows::REGISTER_ROW;
     let mut i: usize = 0;
     while i < count {
         let row = rows::register_row(registers, i);
-        step_run(fields, store, x, row);
+        step_run(fields, store, access, row);
         i += 1;
     }
 }
@@ -180,11 +180,11 @@ fn first_refusal(
     fields: &[u64],
     labels: &[u8],
     store: &[u64],
-    x: Access,
+    access: Access,
 ) -> u8
-    ensures { λ r. ⌜ r ≡ refusalOf (tables (now (registers .entry)) (now (paths .entry)) (now (fields .entry)) (now (labels .entry))) (now (store .entry)) x ⌝ }
+    ensures { λ r. ⌜ r ≡ refusalOf (tables (now (registers .entry)) (now (paths .entry)) (now (fields .entry)) (now (labels .entry))) (now (store .entry)) access ⌝ }
 {
-    if !stored::is_well_formed(x) {
+    if !stored::is_well_formed(access) {
         return 23;
     }
     if !rows::are_lawful(registers, paths, fields, labels) {
@@ -196,18 +196,22 @@ fn first_refusal(
     if !are_fitting(fields, store) {
         return 24;
     }
-    if !is_reached(registers, stored::address_of(x), stored::width_of(x)) {
+    if !is_reached(
+        registers,
+        stored::address_of(access),
+        stored::width_of(access),
+    ) {
         return 25;
     }
     0
 }
 
 // The word of an access that is answered: 0 for a write.
-fn word_of_access(registers: &[u64], fields: &[u64], store: &[u64], x: Access) -> u64
-    requires { ⌜ Ready (widthOf x) (now registers) (now fields) × Stocked (now registers) (now store) ⌝ }
-    ensures { λ r. ⌜ r ≡ joinedWord x (now (registers .entry)) (now (fields .entry)) (now (store .entry)) ⌝ }
+fn word_of_access(registers: &[u64], fields: &[u64], store: &[u64], access: Access) -> u64
+    requires { ⌜ Ready (widthOf access) (now registers) (now fields) × Stocked (now registers) (now store) ⌝ }
+    ensures { λ r. ⌜ r ≡ joinedWord access (now (registers .entry)) (now (fields .entry)) (now (store .entry)) ⌝ }
 {
-    match x {
+    match access {
         Access::Read { address, width } => word_of_rows(registers, fields, store, address, width),
         Access::Write {
             address: _,
@@ -224,17 +228,17 @@ pub fn perform(
     fields: &[u64],
     labels: &[u8],
     store: &mut [u64],
-    x: Access,
+    access: Access,
 ) -> Answer
-    ensures answer { λ r. ⌜ r ≡ answerOf (tables (now (registers .entry)) (now (paths .entry)) (now (fields .entry)) (now (labels .entry))) (now (store .entry)) x ⌝ }
-    ensures stored { λ _. ⌜ now (store .exit) ≡ storeAfter (tables (now (registers .entry)) (now (paths .entry)) (now (fields .entry)) (now (labels .entry))) (now (store .entry)) x ⌝ }
+    ensures answer { λ r. ⌜ r ≡ answerOf (tables (now (registers .entry)) (now (paths .entry)) (now (fields .entry)) (now (labels .entry))) (now (store .entry)) access ⌝ }
+    ensures stored { λ _. ⌜ now (store .exit) ≡ storeAfter (tables (now (registers .entry)) (now (paths .entry)) (now (fields .entry)) (now (labels .entry))) (now (store .entry)) access ⌝ }
 {
-    let refusal = first_refusal(registers, paths, fields, labels, store, x);
+    let refusal = first_refusal(registers, paths, fields, labels, store, access);
     if refusal != 0 {
         return Answer::Refused(refusal);
     }
-    let word = word_of_access(registers, fields, store, x);
-    step_rows(registers, fields, store, x);
+    let word = word_of_access(registers, fields, store, access);
+    step_rows(registers, fields, store, access);
     Answer::Word(word)
 }
 
@@ -333,16 +337,16 @@ pub fn reset(
 }
 
 // Whether each bit of a register's fields lets an access be made again.
-fn run_repeats(fields: &[u64], x: Access, row: RegisterRow) -> bool
-    requires { ⌜ Runs (widthOf x) (now fields) row ⌝ }
-    ensures { λ r. ⌜ r ≡ repeats (rowFields row (now (fields .entry))) x ⌝ }
+fn run_repeats(fields: &[u64], access: Access, row: RegisterRow) -> bool
+    requires { ⌜ Runs (widthOf access) (now fields) row ⌝ }
+    ensures { λ r. ⌜ r ≡ repeats (rowFields row (now (fields .entry))) access ⌝ }
 {
     let first = row.first as usize;
     let count = row.count as usize;
     let mut k: usize = 0;
     while k < count {
         let field = stored_field(row, rows::field_row(fields, first + k));
-        if !stored::repeats_all(x, field) {
+        if !stored::repeats_all(access, field) {
             return false;
         }
         k += 1;
@@ -350,15 +354,15 @@ fn run_repeats(fields: &[u64], x: Access, row: RegisterRow) -> bool
     true
 }
 
-fn rows_repeat(registers: &[u64], fields: &[u64], x: Access) -> bool
-    requires { ⌜ Ready (widthOf x) (now registers) (now fields) ⌝ }
-    ensures { λ r. ⌜ r ≡ repeatsRows x (now (registers .entry)) (now (fields .entry)) 0 (length (now (registers .entry)) / 14) ⌝ }
+fn rows_repeat(registers: &[u64], fields: &[u64], access: Access) -> bool
+    requires { ⌜ Ready (widthOf access) (now registers) (now fields) ⌝ }
+    ensures { λ r. ⌜ r ≡ repeatsRows access (now (registers .entry)) (now (fields .entry)) 0 (length (now (registers .entry)) / 14) ⌝ }
 {
     let count = registers.len() / rows::REGISTER_ROW;
     let mut i: usize = 0;
     while i < count {
         let row = rows::register_row(registers, i);
-        if !run_repeats(fields, x, row) {
+        if !run_repeats(fields, access, row) {
             return false;
         }
         i += 1;
@@ -367,19 +371,29 @@ fn rows_repeat(registers: &[u64], fields: &[u64], x: Access) -> bool
 }
 
 // Whether an access may be sent again.
-pub fn retry(registers: &[u64], paths: &[u8], fields: &[u64], labels: &[u8], x: Access) -> Retried
-    ensures { λ r. ⌜ r ≡ retryOf (tables (now (registers .entry)) (now (paths .entry)) (now (fields .entry)) (now (labels .entry))) x ⌝ }
+pub fn retry(
+    registers: &[u64],
+    paths: &[u8],
+    fields: &[u64],
+    labels: &[u8],
+    access: Access,
+) -> Retried
+    ensures { λ r. ⌜ r ≡ retryOf (tables (now (registers .entry)) (now (paths .entry)) (now (fields .entry)) (now (labels .entry))) access ⌝ }
 {
-    if !stored::is_well_formed(x) {
+    if !stored::is_well_formed(access) {
         return Retried::Refused(23);
     }
     if !rows::are_lawful(registers, paths, fields, labels) {
         return Retried::Refused(24);
     }
-    if !is_reached(registers, stored::address_of(x), stored::width_of(x)) {
+    if !is_reached(
+        registers,
+        stored::address_of(access),
+        stored::width_of(access),
+    ) {
         return Retried::Refused(25);
     }
-    if rows_repeat(registers, fields, x) {
+    if rows_repeat(registers, fields, access) {
         return Retried::Safe;
     }
     Retried::Unsafe

@@ -7,7 +7,8 @@ use native.Mathlib.Omega.{arith}
 use lib.Dec.{eqb, leb, ltb}
 use lib.Pow.{shl-exact}
 use borrow.Author.Tests.{eq-eqb, ne-eqb, lt-leb, leb-true, ltb-true}
-use Rattle.chars.proofs.Laws.{and-left, and-right}
+use Rattle.chars.specs.Choice.{if_then_else_}
+use Rattle.chars.proofs.Laws.{and-left, and-right, and-false}
 use Rattle.parts.specs.declared.Kind.the-variants as kind
 use Rattle.parts.specs.declared.Array.{Array}
 use Rattle.parts.specs.declared.Array.the-variants as array
@@ -104,14 +105,10 @@ module _ (f g : FieldAt) {r : Bool} (e : r ≡ (leb (f .low .0) (g .high .0) && 
   overlap-no h = rw (← e, h)
 
 -- no field spans parts of no bits
-and-false : (p : Bool) → false ≡ (p && false)
-and-false true = refl
-and-false false = refl
-
 module _ (part : ℕ) (f : FieldAt) where
   pub spans-zero : part ≡ 0 → false ≡ spansParts part f
   unfolding spansParts
-  spans-zero e = rw (e, div-zero (f .low .0), div-zero (f .high .0)) (and-false (isWritable (f .values)))
+  spans-zero e = rw (e, div-zero (f .low .0), div-zero (f .high .0)) (sym (and-false (isWritable (f .values))))
 
   module _ {r : Bool} (e : r ≡ isWritable (f .values)) where
     pub spans-yes : r ≡ true → not (eqb (f .low .0 / part) (f .high .0 / part)) ≡ spansParts part f
@@ -126,6 +123,20 @@ module _ (part : ℕ) (f : FieldAt) where
 pub first-sound : (a b : Fault) → firstOf a b ≡ Sound → a ≡ Sound
 first-sound Sound b e = refl
 first-sound (Broken n p) b e = e
+
+pub later-sound : (a b : Fault) → firstOf a b ≡ Sound → b ≡ Sound
+later-sound Sound b e = e
+later-sound (Broken n p) b e = absurd (let z : _≡_ {A = ℕ} 0 1 = cc in omega arith)
+
+-- a test that finds no fault
+module _ (n p : ℕ) (x : Fault) where
+  pub pass-test : (b : Bool) → (if b then Broken n p else x) ≡ Sound → b ≡ false
+  pass-test true e = absurd (let z : _≡_ {A = ℕ} 0 1 = cc in omega arith)
+  pass-test false e = refl
+
+  pub pass-on : (b : Bool) → (if b then Broken n p else x) ≡ Sound → x ≡ Sound
+  pass-on true e = absurd (let z : _≡_ {A = ℕ} 0 1 = cc in omega arith)
+  pass-on false e = e
 
 array-sound : (i : Instance) → instanceFault kind.Field i ≡ Sound → arrayFault true (i .array) ≡ Sound
 unfolding instanceFault

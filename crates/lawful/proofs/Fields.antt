@@ -7,6 +7,7 @@ use native.Mathlib.Omega.{arith}
 use lib.Dec.{leb}
 use lib.ListN.{length}
 use borrow.Author.Tests.{le-leb}
+use Rattle.chars.proofs.Laws.{or-left, or-right, and-both}
 use Rattle.parts.specs.declared.Kind.the-variants as kind
 use Rattle.parts.specs.declared.Array.{Array}
 use Rattle.parts.specs.declared.Array.the-variants as array
@@ -34,7 +35,7 @@ use Rattle.rows.specs.Lawful.{isRanged, isSoundField}
 use Rattle.faithful.specs.Sound.{SoundField, All, all-none, all-more}
 use Rattle.named.specs.Named.{ChildNamed}
 use Rattle.writing.specs.Entries.{bytesIn, withField, rowFields}
-use Rattle.lawful.proofs.Lists.{or-left, or-right, not-of, both-of, none-test}
+use Rattle.lawful.proofs.Lists.{not-of, none-test}
 
 -- the ranges of a field's values
 field-ranges : {f : FieldType} → Fits (component.Field f) → (f .sw ≤ 3) × ((f .hw ≤ 3) × ((f .onread ≤ 2) × (f .onwrite ≤ 8)))
@@ -45,9 +46,9 @@ module _ (next : BitPlace) (i : Instance) (f : FieldType) where
   unfolding isRanged fieldAt
   values-ranged h =
       let r = field-ranges {f = f} h in
-      both-of (leb (f .sw) 3) _ (le-leb (f .sw) 3 (r .0))
-      (both-of (leb (f .hw) 3) _ (le-leb (f .hw) 3 (r .1 .0))
-      (both-of (leb (f .onread) 2) _ (le-leb (f .onread) 2 (r .1 .1 .0)) (le-leb (f .onwrite) 8 (r .1 .1 .1))))
+      and-both (leb (f .sw) 3) _ (le-leb (f .sw) 3 (r .0))
+      (and-both (leb (f .hw) 3) _ (le-leb (f .hw) 3 (r .1 .0))
+      (and-both (leb (f .onread) 2) _ (le-leb (f .onread) 2 (r .1 .1 .0)) (le-leb (f .onwrite) 8 (r .1 .1 .1))))
 
   -- 12
   effect-usable : (table : List Definition) (cs : List Child) → closingFault table (component.Field f) cs ≡ 0 → hasUnusableEffect (fieldAt next i f .values) ≡ false
@@ -69,9 +70,9 @@ module _ (next : BitPlace) (i : Instance) (f : FieldType) where
 field-holds : (width : ℕ) (g : FieldAt) → leb (g .low .0) (g .high .0) ≡ true → isOutside width g ≡ false → hasUnusableEffect (g .values) ≡ false → isResetWide g ≡ false → isSoundField width g ≡ true
 unfolding isSoundField
 field-holds width g a b c d =
-    both-of (leb (g .low .0) (g .high .0)) _ a
-    (both-of (not (isOutside width g)) _ (not-of (isOutside width g) b)
-    (both-of (not (hasUnusableEffect (g .values))) _ (not-of (hasUnusableEffect (g .values)) c) (not-of (isResetWide g) d)))
+    and-both (leb (g .low .0) (g .high .0)) _ a
+    (and-both (not (isOutside width g)) _ (not-of (isOutside width g) b)
+    (and-both (not (hasUnusableEffect (g .values))) _ (not-of (hasUnusableEffect (g .values)) c) (not-of (isResetWide g) d)))
 
 -- none of some fields breaks a rule
 module _ (p : Probe) (f : FieldAt) (fs : List FieldAt) (e : some p (f ∷ fs) ≡ false) where

@@ -5,14 +5,13 @@ use mathlib.Core.List.{List, []}
 use Prim.Native.Nat.{ℕ, suc}
 use native.Mathlib.Omega.{arith}
 use lib.ListN.{length}
-use Rattle.chars.proofs.Laws.{either}
 use Rattle.parts.specs.declared.Kind.the-variants as kind
 use Rattle.suffixes.specs.declared.Fault.the-variants.{Sound}
 use Rattle.properties.specs.Judged.{fine}
 use Rattle.components.specs.Components.{kindOf}
 use Rattle.components.specs.declared.Component.{Component}
 use Rattle.components.specs.declared.Component.the-variants as component
-use Rattle.table.specs.Definitions.{Definition, definitionOf}
+use Rattle.table.specs.Definitions.{definitionOf}
 use Rattle.rules.specs.Judge.{Meaning}
 use Rattle.rules.specs.Rules.{ruled}
 use Rattle.sensible.specs.Sensible.{SensibleMeaning}
@@ -22,19 +21,20 @@ use Rattle.rows.specs.Limits.{nestLimit}
 use Rattle.rows.specs.Rows.{Map, tablesOf}
 use Rattle.rows.specs.Lawful.{lawful}
 use Rattle.rows.specs.Reading.{rowsIn}
-use Rattle.faithful.specs.Sound.{All, all-none, all-more, fieldsIn, SoundMap}
+use Rattle.faithful.specs.Sound.{All, fieldsIn, SoundMap}
 use Rattle.faithful.proofs.Faithful.{sound-lawful, sound-read}
 use Rattle.named.specs.Named.{NamedMeaning}
 use Rattle.named.proofs.Named.{ruled-stages, ruled-named}
 use Rattle.map.specs.Visits.{Visit, isGroup}
 use Rattle.map.specs.Whole.{mapVisits, mapShapes, mapFault, isRegisterVisit, registersAmong, fieldsAmong}
-use Rattle.overlaps.proofs.Visits.{Sited, few-levels, all-sited}
+use Rattle.overlaps.proofs.Visits.{Sited, few-levels, all-sited, registers-all}
 use Rattle.writing.specs.Entries.{entriesOf}
 use Rattle.compile.specs.Compiled.{mapOf, compiled}
 use Rattle.compile.proofs.Counts.{entries-counted, fields-among}
 use Rattle.faithful.proofs.Lists.{all-both, all-map}
 use Rattle.lawful.proofs.Stages.{Accepting, accepting, not-many, not-misplaced}
-use Rattle.lawful.proofs.Steps.{Seen, visits-seen}
+use Rattle.lawful.proofs.Steps.{StepFits, map-seen}
+use Rattle.map.proofs.Elements.{Seen}
 use Rattle.lawful.proofs.Registers.{RegisterSeen, register-holds, entries-sound}
 use Rattle.lawful.proofs.Reaching.{Short, Has, has-some, visits-reach, few-registers, few-fields}
 
@@ -44,17 +44,10 @@ map-group (component.Register r) e = absurd (let z : _≡_ {A = ℕ} 0 1 = cc in
 map-group (component.Regfile a) e = refl
 map-group (component.Addrmap a m) e = refl
 
--- the registers among some elements
-registers-all : {P : Visit → Type 0} (table : List Definition) {vs : List Visit} → All P vs → All (λ (v : Visit). P v × (isRegisterVisit table v ≡ true)) (registersAmong table vs)
-unfolding registersAmong
-registers-all table all-none = all-none
-registers-all {P = P} table (all-more {x = v} {xs = vs} p a) =
-    either (λ (l : List Visit). All (λ (v : Visit). P v × (isRegisterVisit table v ≡ true)) l) (isRegisterVisit table v) (λ y. all-more (p, y) (registers-all table a)) (λ _. registers-all table a)
-
 -- a map that keeps the rules
 module _ (text : List ℕ) (m : Meaning) (s : SensibleMeaning m) (n : NamedMeaning text m) (e : mapFault m ≡ Sound) where
-  all-seen : All (Seen text (m .table) 0) (mapVisits m)
-  all-seen = visits-seen text (m .table) (mapShapes m) (modeOf (definitionOf (m .table) (m .map) .component)) (suc nestLimit) (m .map) 0 [] (s .table) (n .each) (s .low) all-none
+  all-seen : All (Seen (length (m .table)) (StepFits text) 0) (mapVisits m)
+  all-seen = map-seen text (m .table) (mapShapes m) (modeOf (definitionOf (m .table) (m .map) .component)) (m .map) (s .table) (n .each) (s .low)
 
   all-short : All Short (mapVisits m)
   all-short = few-levels (m .table) 0 0 (mapVisits m) (not-many m e)

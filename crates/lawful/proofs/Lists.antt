@@ -1,6 +1,6 @@
 -- Laws of tests, and of what holds of all of a list.
 use mathlib.Core.Path.{_≡_, refl}
-use mathlib.Core.Bool.{Bool, true, false, _||_, _&&_, not}
+use mathlib.Core.Bool.{Bool, true, false, not}
 use mathlib.Core.List.{List, [], _∷_, _++_}
 use Prim.Native.Nat.{ℕ, suc}
 use native.Mathlib.Omega.{arith}
@@ -17,21 +17,9 @@ pub all-left : {A : Type 0} {P : A → Type 0} (xs ys : List A) → All P (xs ++
 all-left [] ys h = all-none
 all-left (x ∷ xs) ys h = all-more (all-first h) (all-left xs ys (all-rest h))
 
-pub or-left : (a b : Bool) → (a || b) ≡ false → a ≡ false
-or-left true b f = f
-or-left false b f = refl
-
-pub or-right : (a b : Bool) → (a || b) ≡ false → b ≡ false
-or-right true b f = absurd (let z : _≡_ {A = ℕ} 0 1 = cc in omega arith)
-or-right false b f = f
-
 pub not-of : (b : Bool) → b ≡ false → not b ≡ true
 not-of true e = absurd (let z : _≡_ {A = ℕ} 0 1 = cc in omega arith)
 not-of false e = refl
-
-pub both-of : (a b : Bool) → a ≡ true → b ≡ true → (a && b) ≡ true
-both-of true b e f = f
-both-of false b e f = e
 
 -- a number of a fault, or none
 module _ (n x : ℕ) where

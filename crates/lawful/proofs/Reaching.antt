@@ -8,11 +8,11 @@ use lib.Dec.{ltb}
 use lib.ListN.{length}
 use borrow.Author.Tests.{ltb-false}
 use Rattle.chars.specs.Choice.{if_then_else_}
-use Rattle.chars.proofs.Laws.{either}
+use Rattle.chars.proofs.Laws.{either, or-left, or-right}
+use Rattle.components.proofs.Laws.{pass-test, pass-on}
 use Rattle.parts.specs.declared.Kind.{Kind}
 use Rattle.settings.specs.Settings.{isField}
-use Rattle.suffixes.specs.declared.Fault.{Fault}
-use Rattle.suffixes.specs.declared.Fault.the-variants.{Sound, Broken}
+use Rattle.suffixes.specs.declared.Fault.the-variants.{Sound}
 use Rattle.properties.specs.declared.Given.{Given}
 use Rattle.components.specs.Components.{kindOf}
 use Rattle.components.specs.declared.Component.{Component}
@@ -31,7 +31,7 @@ use Rattle.rows.specs.Limits.{nestLimit, registerLimit, fieldLimit}
 use Rattle.faithful.specs.Sound.{All}
 use Rattle.map.specs.Visits.{PathStep, Visit, indexIn, isGroup, elementVisits, childVisits, ofGroup, visitsIn}
 use Rattle.map.specs.Whole.{isRegister, isRegisterVisit, tooMany, registersAmong, fieldsAmong}
-use Rattle.lawful.proofs.Lists.{all-first, all-rest, all-left, or-left, or-right, none-test}
+use Rattle.lawful.proofs.Lists.{all-first, all-rest, all-left, none-test}
 
 -- a register among some elements
 pub data Has (table : List Definition) : List Visit → Type 0 where
@@ -130,15 +130,6 @@ visits-reach table shapes mode (suc levels) row base path s low g short deep a =
     (λ r address here l k long near c. visits-reach table shapes mode levels r address here s (omega (arith, l, f .count, low)) k near (omega (arith, deep, long)) c) b) a
 
 -- 18: how many registers and fields there are
-module _ (n p : ℕ) (x : Fault) where
-  pass-test : (b : Bool) → (if b then Broken n p else x) ≡ Sound → b ≡ false
-  pass-test true f = absurd (let z : _≡_ {A = ℕ} 0 1 = cc in omega arith)
-  pass-test false f = refl
-
-  pass-on : (b : Bool) → (if b then Broken n p else x) ≡ Sound → x ≡ Sound
-  pass-on true f = absurd (let z : _≡_ {A = ℕ} 0 1 = cc in omega arith)
-  pass-on false f = f
-
 register-more : (b : Bool) (registers limit : ℕ) (v : Visit) (vs : List Visit) → (if b then suc registers else registers) + length vs ≤ limit → registers + length (if b then v ∷ vs else vs) ≤ limit
 register-more true registers limit v vs h = omega (arith, h)
 register-more false registers limit v vs h = h

@@ -27,7 +27,8 @@ use Rattle.overlaps.proofs.Visits.{Sited}
 use Rattle.writing.specs.Entries.{stepsOf, rowFields, widthsOf, entryOf, entriesOf}
 use Rattle.compile.proofs.Counts.{register-counted}
 use Rattle.lawful.proofs.Lists.{none-test, none-on}
-use Rattle.lawful.proofs.Steps.{Names, path-sound, path-length, Seen}
+use Rattle.lawful.proofs.Steps.{Names, StepFits, path-sound, path-length}
+use Rattle.map.proofs.Elements.{Seen}
 use Rattle.lawful.proofs.Fields.{rows-same, fields-sound}
 
 -- a register breaks no rule at its closing brace
@@ -109,7 +110,7 @@ register-holds text table mode row s names low y = register-by text table mode r
 
 -- a register of a map, in its row
 pub record RegisterSeen (text : List ℕ) (table : List Definition) (mode : ℕ) (v : Visit) : Type 0 where
-  pub seen : Seen text table 0 v
+  pub seen : Seen (length table) (StepFits text) 0 v
   pub type : RegisterHolds text table mode (v .type)
   pub shallow : length (v .path) ≤ 8
   pub sited : Sited (shapesFrom mode [] table) v

@@ -6,7 +6,7 @@ use native.Mathlib.Omega.{arith}
 use Rattle.suffixes.specs.declared.Fault.{Fault}
 use Rattle.suffixes.specs.declared.Fault.the-variants.{Sound, Broken}
 use Rattle.suffixes.specs.Suffixes.{firstOf}
-use Rattle.components.proofs.Laws.{first-sound}
+use Rattle.components.proofs.Laws.{first-sound, later-sound}
 use Rattle.properties.specs.Judged.{Judged, fault, fine, onward}
 use Rattle.rules.specs.Judge.{Meaning, found}
 use Rattle.rules.specs.Rules.{ruled}
@@ -34,10 +34,6 @@ unfolding compiled
 accepting text m e = judged-by text m (ruled text) refl e
 
 -- 18 and 20 are kept
-later-sound : (a b : Fault) → firstOf a b ≡ Sound → b ≡ Sound
-later-sound Sound b f = f
-later-sound (Broken n p) b f = absurd (let z : _≡_ {A = ℕ} 0 1 = cc in omega arith)
-
 module _ (m : Meaning) (e : mapFault m ≡ Sound) where
   behind-many : firstOf (tooClose (mapVisits m)) (firstOf (misplaced (m .table) (mapShapes m) (mapVisits m)) (overlapping (m .table) (mapShapes m) [] (mapVisits m))) ≡ Sound
   unfolding mapFault

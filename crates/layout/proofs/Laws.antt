@@ -19,15 +19,14 @@ use Rattle.parts.specs.declared.Number.{Number}
 use Rattle.parts.specs.declared.Instance.{Instance}
 use Rattle.settings.specs.Settings.{isField, isAlignment}
 use Rattle.suffixes.specs.Suffixes.{firstOf, isSize, arrayFault, suffixRange, suffixFault, isArray, isBarred, instanceFault}
-use Rattle.suffixes.specs.declared.Fault.{Fault}
-use Rattle.suffixes.specs.declared.Fault.the-variants.{Sound, Broken}
+use Rattle.suffixes.specs.declared.Fault.the-variants.{Sound}
 use Rattle.properties.specs.Assigned.{orElse}
 use Rattle.properties.specs.declared.Given.{Given}
 use Rattle.components.specs.Components.{startOf}
 use Rattle.components.specs.declared.Offset.{Offset}
 use Rattle.components.specs.declared.Start.{Start}
 use Rattle.components.specs.declared.Start.the-variants as start
-use Rattle.components.proofs.Laws.{first-sound, ranged-sound}
+use Rattle.components.proofs.Laws.{first-sound, ranged-sound, later-sound}
 use Rattle.offsets.specs.Offsets.{cap, cut, raised, commonMultiple, powerAbove}
 use Rattle.offsets.proofs.Laws.{cut-bound, cut-capped, cut-positive, cut-low, cut-stays, cut-sum, cut-product, cut-raised, cut-common, cut-power, common-low, above-reaches, alignment-low, alignment-high}
 use Rattle.layout.specs.Layout.{elements, strideOr, strideOf, spanOf, modeStep, stepOr, stepOf, startAfter, laid, cutShape, cutOffset, cutLaid}
@@ -35,10 +34,6 @@ use Rattle.layout.specs.Fitting.{Fitting, StartBelow, start-free, start-
 use Rattle.layout.specs.declared.Shape.{Shape}
 
 -- what a sound instance of a register or regfile says of its numbers
-later-sound : (a b : Fault) → firstOf a b ≡ Sound → b ≡ Sound
-later-sound Sound b e = e
-later-sound (Broken n p) b e = absurd (let z : _≡_ {A = ℕ} 0 1 = cc in omega arith)
-
 given-sound : (barred : Bool) (k : SuffixKind) (mark : ℕ) (n : Number) → suffixFault barred k (suffix.Given mark n) ≡ Sound → suffixRange k (n .value) ≡ true
 given-sound true k mark n e = absurd (let z : _≡_ {A = ℕ} 0 1 = cc in omega arith)
 given-sound false k mark n e = ranged-sound (suffixRange k (n .value)) (n .place) e

@@ -8,6 +8,7 @@ use native.Mathlib.Omega.{arith}
 use lib.ListN.{length, getD}
 use lib.Dec.{leb, ltb}
 use Rattle.chars.specs.Choice.{if_then_else_}
+use Rattle.chars.proofs.Laws.{and-false}
 use Rattle.components.specs.Fields.{isWritable}
 use Rattle.bits.specs.Bits.{bit}
 use Rattle.bits.proofs.BitLaws.{bit-number, number-ext, number-bit, number-lt}
@@ -20,7 +21,6 @@ use Rattle.model.specs.declared.Access.{Access}
 use Rattle.model.specs.declared.Access.the-variants.{Read, Write}
 use Rattle.model.specs.Model.{size, fits, addressOf, widthOf, reaches, partLow, placeOf, wordBit, bitAction, acted, stepped, answered, after, bitsOf, fieldIn}
 use Rattle.model.specs.Lists.{action, tableFrom, table, run, Stored}
-use Rattle.model.proofs.Tests.{and-false}
 use Rattle.model.proofs.Fits.{fits-first, fits-rest, fits-more, fits-long}
 
 -- ---- stores

@@ -8,10 +8,10 @@ use lib.ListN.{length, getD, replicate, length-replicate, getD-replicate}
 use lib.Dec.{ltb}
 use lib.Pow.{pow-pos}
 use borrow.Author.Tests.{ltb-true, lt-ltb}
-use Rattle.chars.proofs.Laws.{and-left, and-right}
+use Rattle.chars.proofs.Laws.{and-left, and-right, and-both}
 use Rattle.model.specs.declared.StoredField.{StoredField}
 use Rattle.model.specs.Model.{size, fits, fieldIn}
-use Rattle.model.proofs.Tests.{true-false, and-both}
+use Rattle.model.proofs.Tests.{true-false}
 
 module _ (c : StoredField) (m : List StoredField) (v : ℕ) (s : List ℕ) where
   pub fits-first : fits (c ∷ m) (v ∷ s) ≡ true → v < 2 ^ size c

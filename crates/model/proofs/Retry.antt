@@ -10,7 +10,7 @@ use lib.ListN.{length, replicate}
 use lib.Dec.{eqb}
 use borrow.Author.Tests.{eqb-true, eqb-false, eq-eqb}
 use Rattle.chars.specs.Choice.{if_then_else_}
-use Rattle.chars.proofs.Laws.{and-left, and-right}
+use Rattle.chars.proofs.Laws.{and-left, and-right, and-both, or-left, or-right}
 use Rattle.settings.specs.Codes.{readCode, writeCode}
 use Rattle.settings.specs.declared.ReadEffect.the-variants as onread
 use Rattle.settings.specs.declared.WriteEffect.the-variants as onwrite
@@ -29,7 +29,7 @@ use Rattle.model.specs.declared.Access.the-variants.{Read, Write}
 use Rattle.model.specs.Model.{size, fits, reachesBit, writesBit, wordBit, bitAction, refusal, answered, after, gives, bitsOf, wordFrom, answerWith, answerFrom, fieldIn}
 use Rattle.model.specs.Lists.{action, Stored}
 use Rattle.model.specs.Repeats.{invertedBy, changedByReading, readsBit, repeatsBit, allBelow, repeats}
-use Rattle.model.proofs.Tests.{true-false, and-both, not-both, not-second, or-first, or-second}
+use Rattle.model.proofs.Tests.{true-false, not-both, not-second}
 use Rattle.model.proofs.Fits.{zeros-fit}
 use Rattle.model.proofs.Demand.{under, after-under, fits-after, fits-under, bit-under, under-under, under-ext}
 use Rattle.model.proofs.Words.{wordPlace, word-inside, field-at, gives-cong, gives-each, gives-none, word-cong}
@@ -170,8 +170,8 @@ sets v = eqb (v .onread) (readCode onread.Rset)
 -- a field that reading changes in no way keeps its bits
 read-kept : (v : FieldType) → changedByReading v ≡ false → readAction (v .onread) ≡ Kept
 read-kept v e =
-    read-keeps (v .onread) (eqb-false (v .onread) (readCode onread.Rclr) (or-first (clears v) (sets v) e))
-    (eqb-false (v .onread) (readCode onread.Rset) (or-second (clears v) (sets v) e))
+    read-keeps (v .onread) (eqb-false (v .onread) (readCode onread.Rclr) (or-left (clears v) (sets v) e))
+    (eqb-false (v .onread) (readCode onread.Rset) (or-right (clears v) (sets v) e))
 
 -- reading leaves a 1 of a 0 exactly where it sets
 from-zero : (v : FieldType) → apply (readAction (v .onread)) false ≡ sets v

@@ -8,7 +8,7 @@ use native.Mathlib.Omega.{arith}
 use lib.ListN.{length}
 use lib.Dec.{leb, ltb}
 use borrow.Author.Tests.{leb-true, ltb-true, lt-ltb, le-leb}
-use Rattle.chars.proofs.Laws.{and-left, and-right}
+use Rattle.chars.proofs.Laws.{and-left, and-right, and-both, and-false, or-left, or-right}
 use Rattle.components.specs.declared.Offset.{Offset}
 use Rattle.components.specs.Fields.{isReadable}
 use Rattle.bits.proofs.BitLaws.{number-ext}
@@ -18,7 +18,7 @@ use Rattle.model.specs.declared.Access.the-variants.{Read, Write}
 use Rattle.model.specs.Model.{size, reaches, partLow, placeOf, fieldGives, gives, wordFrom, refusal, answerWith, answerFrom, fieldIn}
 use Rattle.model.specs.Lists.{Stored}
 use Rattle.model.specs.Repeats.{readsBit}
-use Rattle.model.proofs.Tests.{and-both, and-false, and-cong, or-first, or-second}
+use Rattle.model.proofs.Tests.{and-cong}
 
 -- ---- the bits that a field gives
 
@@ -121,9 +121,9 @@ pub gives-each : (m : List StoredField) (a : Offset) (w : ℕ) (b : ℕ → ℕ 
     → gives m a w b j ≡ false → fieldGives a w (fieldIn m f) (b f) j ≡ false
 unfolding gives
 gives-each [] a w b j f h e = absurd (not-suc-le-zero h)
-gives-each (c ∷ m) a w b j zero h e = or-first (fieldGives a w c (b 0) j) (gives m a w (λ g. b (suc g)) j) e
+gives-each (c ∷ m) a w b j zero h e = or-left (fieldGives a w c (b 0) j) (gives m a w (λ g. b (suc g)) j) e
 gives-each (c ∷ m) a w b j (suc f) h e =
-    gives-each m a w (λ g. b (suc g)) j f (le-of-suc-le-suc h) (or-second (fieldGives a w c (b 0) j) (gives m a w (λ g. b (suc g)) j) e)
+    gives-each m a w (λ g. b (suc g)) j f (le-of-suc-le-suc h) (or-right (fieldGives a w c (b 0) j) (gives m a w (λ g. b (suc g)) j) e)
 
 pub gives-none : (m : List StoredField) (a : Offset) (w j : ℕ) → gives m a w (λ f i. false) j ≡ false
 unfolding gives

@@ -6,6 +6,7 @@ use Prim.Native.Nat.{ℕ, zero, suc, _+_, _<_}
 use native.Mathlib.Omega.{arith}
 use lib.Dec.{leb, ltb, eqb}
 use lib.ListN.{length, getD}
+use Rattle.chars.proofs.Laws.{or-right}
 use Rattle.chars.specs.Choice.{if_then_else_}
 use Rattle.parts.specs.declared.Name.{Name}
 use Rattle.parts.specs.declared.Kind.{Kind}
@@ -156,10 +157,6 @@ module _ (text : List ℕ) where
   map-passes kind.Reg n g d h e f b m q rest r = r q
   map-passes kind.Field n g d h e f b m q rest r = r q
 
-  or-false : (a : Bool) {b : Bool} → (a || b) ≡ false → b ≡ false
-  or-false true e = absurd (let z : _≡_ {A = ℕ} 0 1 = cc in omega arith)
-  or-false false e = e
-
   elem-passes : {e : Elem} → ElemNamed text e → (s : State) → Each (Passes s e) (judgeElem e text Root [] noSettings s)
   unfolding judgeElem judgeDefinition declared judgeUse judgeSetting
   elem-passes (definition-named {h = h} {b = b} {is = is} x y z) s =
@@ -169,7 +166,7 @@ module _ (text : List ℕ) where
       each-unless P (typeTwice text (s .known .here) (h .name)) 6 (namePlace (h .name)) (λ _.
       each-next P _ _ (λ m.
       each-next P (judgeInstances text Root (h .kind) (lastOf (m .table)) is (s .held)) _ (λ held.
-      each-fine (map-passes (h .kind) (h .name) (s .known .map) (lastOf (m .table)) h refl refl (or-false (not (mayDefine Root (h .kind))) bad) x))))))
+      each-fine (map-passes (h .kind) (h .name) (s .known .map) (lastOf (m .table)) h refl refl (or-right (not (mayDefine Root (h .kind))) _ bad) x))))))
   elem-passes (instances-named {n = n} {is = is} x) s = by (lookup text n (s .known .here ++ []))
     where
       by : (g : Given) → Each (Passes s (instances n is)) (judgeUse text Root n is s g)

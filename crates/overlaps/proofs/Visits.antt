@@ -2,28 +2,27 @@
 -- where an address can be.
 use mathlib.Core.Bool.{Bool, true, false, _||_, _&&_, not}
 use mathlib.Core.Path.{_≡_, refl, ap, _∙_}
-use mathlib.Core.List.{List, [], _∷_, _++_}
+use mathlib.Core.List.{List, [], _∷_}
 use Prim.Native.Nat.{ℕ, zero, suc, _+_, _-_, _*_, _/_, _%_, _<_, _≤_}
 use native.Mathlib.Omega.{arith}
 use lib.Dec.{eqb, ltb}
 use lib.ListN.{length, getD}
 use borrow.Author.Tests.{eqb-true, ltb-false, not-false}
 use Rattle.chars.specs.Choice.{if_then_else_}
-use Rattle.chars.proofs.Laws.{either}
+use Rattle.chars.proofs.Laws.{either, or-left, or-right}
 use Rattle.parts.specs.declared.Name.{Name}
 use Rattle.parts.specs.declared.Array.{Array}
 use Rattle.parts.specs.declared.Array.the-variants as array
 use Rattle.settings.specs.Settings.{isWidth}
 use Rattle.suffixes.specs.Suffixes.{firstOf}
-use Rattle.suffixes.specs.declared.Fault.{Fault}
-use Rattle.suffixes.specs.declared.Fault.the-variants.{Sound, Broken}
+use Rattle.suffixes.specs.declared.Fault.the-variants.{Sound}
 use Rattle.properties.specs.declared.Given.{Given}
 use Rattle.properties.specs.declared.Given.the-variants.{Nothing}
 use Rattle.components.specs.Components.{kindOf}
 use Rattle.components.specs.declared.Register.{Register}
 use Rattle.components.specs.declared.Component.{Component}
 use Rattle.components.specs.declared.Component.the-variants as component
-use Rattle.components.proofs.Laws.{first-sound}
+use Rattle.components.proofs.Laws.{first-sound, later-sound, pass-test, pass-on}
 use Rattle.table.specs.Cells.{cellOf, componentIn}
 use Rattle.table.specs.Definitions.{Child, Definition, definitionOf}
 use Rattle.table.specs.Relation.{IsEntry, Block, block-end, block-on}
@@ -32,9 +31,8 @@ use Rattle.rules.proofs.Closing.{getD-last}
 use Rattle.sensible.specs.Sensible.{Fits, register-fits}
 use Rattle.offsets.specs.Offsets.{cut}
 use Rattle.offsets.proofs.Laws.{cut-low}
-use Rattle.layout.specs.Layout.{elements, bottom, shapeAt, laidFrom, alignmentOf, shapeOf, shapesFrom, cutShape}
+use Rattle.layout.specs.Layout.{elements, shapeAt, shapeOf, shapesFrom, cutShape}
 use Rattle.layout.specs.declared.Shape.{Shape}
-use Rattle.layout.specs.declared.Laid.{Laid}
 use Rattle.layout.proofs.Laws.{sound-elements}
 use Rattle.shapes.specs.declared.Extent.{Extent}
 use Rattle.shapes.specs.Ready.{known, Ready}
@@ -43,10 +41,11 @@ use Rattle.shapes.proofs.Rows.{RowFits, width-range}
 use Rattle.shapes.proofs.Laws.{ready-is-row, ready-row, ready-block}
 use Rattle.shapes.proofs.Children.{ReadyChild, ReadyChildren, ready-none, ready-more, ready-children}
 use Rattle.faithful.specs.Sound.{All, all-none, all-more}
-use Rattle.faithful.proofs.Lists.{all-append, all-map, all-both, all-at}
+use Rattle.faithful.proofs.Lists.{all-map, all-both}
 use Rattle.rows.specs.Limits.{nestLimit, registerLimit, fieldLimit, addressLimit}
 use Rattle.rows.specs.Rows.{padded, indexCode}
-use Rattle.map.specs.Visits.{PathStep, Visit, indexIn, isGroup, elementVisits, childVisits, ofGroup, visitsIn}
+use Rattle.map.specs.Visits.{PathStep, Visit, indexIn, isGroup}
+use Rattle.map.proofs.Elements.{stepFor, Stepped, Seen, visits-seen}
 use Rattle.map.specs.Whole.{isRegister, isRegisterVisit, tooMany, tooClose, misplaced, registersAmong}
 use Rattle.walk.specs.Runs.{stepCells}
 use Rattle.walk.specs.Walks.{elementsOf, registersOf, surveyFault}
@@ -71,10 +70,6 @@ held-all text t e row a ready low g =
     let k : componentIn t row ≡ definitionOf (known text t e) row .component = ready-is-row text t e row ready low .component in
     held-by text t e row a low (ready-block text t e row ready low) (ready-children text t e row a ready low (rw k g))
 
--- the step of an instance's element
-abbrev pub stepFor : Child → ℕ → PathStep
-stepFor c k = record { name = c .instance .name; index = indexIn (c .instance .array) k }
-
 pub record StepOf (text t : List ℕ) (e : Extent) (s : PathStep) : Type 0 where
   pub child : Child
   pub held : Held text t e child
@@ -82,71 +77,26 @@ pub record StepOf (text t : List ℕ) (e : Extent) (s : PathStep) : Type 0 where
   pub low : element < elements (child .instance .array)
   pub same : s ≡ stepFor child element
 
--- an element: of a row, and its path, longer than `depth`, ends with its own step
-pub record Seen (text t : List ℕ) (e : Extent) (depth : ℕ) (v : Visit) : Type 0 where
-  pub low : v .type < e .rows
-  pub before : List PathStep
-  pub last : PathStep
-  pub whole : v .path ≡ before ++ (last ∷ [])
-  pub named : last .name ≡ v .name
-  pub steps : All (StepOf text t e) (v .path)
-  pub deeper : depth < length (v .path)
+-- an instance in a body gives its elements their steps
+held-stepped : {text t : List ℕ} {e : Extent} (c : Child) → Held text t e c → Stepped (e .rows) (StepOf text t e) c
+held-stepped {e = e} c h =
+    record {
+      below = omega (arith, h .fits .below, h .low);
+      step = λ k l. record { child = c; held = h; element = k; low = l; same = refl };
+    }
 
-seen-above : {text t : List ℕ} {e : Extent} {d k : ℕ} (v : Visit) → d ≤ k → Seen text t e k v → Seen text t e d v
-seen-above v h s =
-    record { low = s .low; before = s .before; last = s .last; whole = s .whole; named = s .named; steps = s .steps; deeper = omega (arith, h, s .deeper) }
-
-module _ (text t : List ℕ) (e : Extent) where
-  elements-seen : (content : ℕ → List PathStep → List Visit) (path : List PathStep) (c : Child) (base : ℕ) (s : Shape) (l : Laid) (k n : ℕ)
-      → Held text t e c → All (StepOf text t e) path → k + n ≤ elements (c .instance .array)
-      → ((address : ℕ) (here : List PathStep) → All (StepOf text t e) here → All (Seen text t e (length here)) (content address here))
-      → All (Seen text t e (length path)) (elementVisits content path c base s l k n)
-  unfolding elementVisits
-  elements-seen content path c base s l k zero h a f inner = all-none
-  elements-seen content path c base s l k (suc n) h a f inner =
-      let step : PathStep = stepFor c k in
-      let here : List PathStep = path ++ (step ∷ []) in
-      let long : length here ≡ suc (length path) = length-more path step in
-      let one : StepOf text t e step = record { child = c; held = h; element = k; low = omega (arith, f); same = refl } in
-      let b : All (StepOf text t e) here = all-append a (all-more one all-none) in
-      let g : c .type < e .rows = omega (arith, h .fits .below, h .low) in
-      all-more (record { low = g; before = path; last = step; whole = refl; named = refl; steps = b; deeper = omega (arith, long) })
-      (all-append (all-map (λ v s. seen-above v (omega (arith, long)) s) (inner (base + (l .start .0 + l .stride * k)) here b))
-      (elements-seen content path c base s l (suc k) n h a (omega (arith, f)) inner))
-
-  children-seen : (content : ℕ → ℕ → List PathStep → List Visit) (shapes : List Shape) (path : List PathStep) (base : ℕ) {cs : List Child} (ls : List Laid)
-      → All (Held text t e) cs → All (StepOf text t e) path
-      → ((d address : ℕ) (here : List PathStep) → d < e .rows → All (StepOf text t e) here → All (Seen text t e (length here)) (content d address here))
-      → All (Seen text t e (length path)) (childVisits content shapes path base cs ls)
-  unfolding childVisits
-  children-seen content shapes path base ls all-none a inner = all-none
-  children-seen content shapes path base [] (all-more h hs) a inner = all-none
-  children-seen content shapes path base (l ∷ ls) (all-more {x = c} h hs) a inner =
-      let g : c .type < e .rows = omega (arith, h .fits .below, h .low) in
-      all-append
-      (elements-seen (content (c .type)) path c base (shapeAt shapes (c .type)) l 0 (elements (c .instance .array)) h a (omega arith) (λ address here b. inner (c .type) address here g b))
-      (children-seen content shapes path base ls hs a inner)
-
-group-all : {P : Visit → Type 0} (c : Component) {vs : List Visit} → ((a : Given) → GroupOf c a → All P vs) → All P (ofGroup (isGroup c) vs)
-group-all (component.Field f) g = all-none
-group-all (component.Register r) g = all-none
-group-all (component.Regfile a) g = g a of-regfile
-group-all (component.Addrmap a m) g = g a of-map
-
-pub visits-seen : (text t : List ℕ) (e : Extent) (levels row base : ℕ) (path : List PathStep) → Ready text t e → row < e .rows → All (StepOf text t e) path
-    → All (Seen text t e (length path)) (visitsIn levels (e .mode) (known text t e) (allShapes text t e) row base path)
-unfolding visitsIn
-visits-seen text t e zero row base path ready low a = all-none
-visits-seen text t e (suc levels) row base path ready low a =
-    let d : Definition = definitionOf (known text t e) row in
-    group-all (d .component)
-    (λ al g. children-seen text t e (visitsIn levels (e .mode) (known text t e) (allShapes text t e)) (allShapes text t e) path base
-    (laidFrom (e .mode) (alignmentOf (d .component)) (allShapes text t e) bottom (d .instances)) (held-all text t e row al ready low g) a
-    (λ d address here l b. visits-seen text t e levels d address here ready l b))
+group-held : (text t : List ℕ) (e : Extent) (row : ℕ) → Ready text t e → row < e .rows → (c : Component) → definitionOf (known text t e) row .component ≡ c → isGroup c ≡ true
+    → All (Held text t e) (definitionOf (known text t e) row .instances)
+group-held text t e row ready low (component.Field f) k y = absurd (let z : _≡_ {A = ℕ} 0 1 = cc in omega arith)
+group-held text t e row ready low (component.Register r) k y = absurd (let z : _≡_ {A = ℕ} 0 1 = cc in omega arith)
+group-held text t e row ready low (component.Regfile a) k y = held-all text t e row a ready low (rw k of-regfile)
+group-held text t e row ready low (component.Addrmap a m) k y = held-all text t e row a ready low (rw k of-map)
 
 -- the elements of a map
-pub elements-of-seen : (text t : List ℕ) (e : Extent) (row : ℕ) → Ready text t e → row < e .rows → All (Seen text t e 0) (elementsOf text t e row)
-elements-of-seen text t e row ready low = visits-seen text t e (suc nestLimit) row 0 [] ready low all-none
+pub elements-of-seen : (text t : List ℕ) (e : Extent) (row : ℕ) → Ready text t e → row < e .rows → All (Seen (e .rows) (StepOf text t e) 0) (elementsOf text t e row)
+elements-of-seen text t e row ready low =
+    visits-seen (e .rows) (StepOf text t e) (known text t e) (allShapes text t e) (e .mode)
+    (λ d l g. all-map held-stepped (group-held text t e d ready l (definitionOf (known text t e) d .component) refl g)) (suc nestLimit) row 0 [] low all-none
 
 -- an index of a path in a cell
 index-low : (a : Array) (k : ℕ) → k < elements a → indexCode (indexIn a k) ≤ elements a
@@ -216,7 +166,7 @@ padded-cell (suc n) (x ∷ xs) zero h = refl
 padded-cell (suc n) (x ∷ xs) (suc k) h = padded-cell n xs k (omega (arith, h))
 
 -- the last step of an element's path has its name
-module _ (text t : List ℕ) (e : Extent) (depth : ℕ) (v : Visit) (s : Seen text t e depth v) where
+module _ (text t : List ℕ) (e : Extent) (depth : ℕ) (v : Visit) (s : Seen (e .rows) (StepOf text t e) depth v) where
   pub seen-length : length (v .path) ≡ suc (length (s .before))
   seen-length = ap length (s .whole) ∙ length-more (s .before) (s .last)
 
@@ -230,27 +180,6 @@ module _ (text t : List ℕ) (e : Extent) (depth : ℕ) (v : Visit) (s : Seen te
   seen-place = step-start (v .path) (length (v .path) - 1) (omega (arith, seen-length)) ∙ ap (λ (n : Name). n .start) seen-last
 
 -- 18, 19 and 20 are kept
-or-left : (a b : Bool) → (a || b) ≡ false → a ≡ false
-or-left true b f = f
-or-left false b f = refl
-
-or-right : (a b : Bool) → (a || b) ≡ false → b ≡ false
-or-right true b f = absurd (let z : _≡_ {A = ℕ} 0 1 = cc in omega arith)
-or-right false b f = f
-
-module _ (n p : ℕ) (x : Fault) where
-  pass-test : (b : Bool) → (if b then Broken n p else x) ≡ Sound → b ≡ false
-  pass-test true f = absurd (let z : _≡_ {A = ℕ} 0 1 = cc in omega arith)
-  pass-test false f = refl
-
-  pass-on : (b : Bool) → (if b then Broken n p else x) ≡ Sound → x ≡ Sound
-  pass-on true f = absurd (let z : _≡_ {A = ℕ} 0 1 = cc in omega arith)
-  pass-on false f = f
-
-later-sound : (a b : Fault) → firstOf a b ≡ Sound → b ≡ Sound
-later-sound Sound b f = f
-later-sound (Broken n p) b f = absurd (let z : _≡_ {A = ℕ} 0 1 = cc in omega arith)
-
 pub few-levels : (table : List Definition) (registers fields : ℕ) (vs : List Visit) → tooMany table registers fields vs ≡ Sound → All (λ (v : Visit). length (v .path) ≤ 8) vs
 unfolding tooMany
 few-levels table registers fields [] f = all-none
@@ -357,7 +286,7 @@ module _ (text t : List ℕ) (e : Extent) (row : ℕ) (r : RegisterKnown text t 
 
 -- a register of a map that keeps 18, 19 and 20
 pub record RegisterSeen (text t : List ℕ) (e : Extent) (v : Visit) : Type 0 where
-  pub seen : Seen text t e 0 v
+  pub seen : Seen (e .rows) (StepOf text t e) 0 v
   pub register : isRegisterVisit (known text t e) v ≡ true
   pub type : RegisterKnown text t e (v .type)
   pub shallow : length (v .path) ≤ 8

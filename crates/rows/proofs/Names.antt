@@ -8,12 +8,9 @@ use native.Mathlib.Omega.{arith}
 use lib.Dec.{eqb, leb}
 use borrow.Author.Tests.{eq-eqb, ne-eqb, lt-ltb, le-ltb, le-leb, lt-leb, not-true, not-false}
 use Rattle.chars.specs.Ascii.{isLetter, isNameByte}
+use Rattle.chars.proofs.Laws.{and-false}
 use Rattle.table.specs.Cells.{cellOf}
 use Rattle.rows.specs.Lawful.{follows, allFollow, isName, areZero, isPathCell, areNames, isIndex, areIndices, areSame}
-
-and-false : (p : Bool) → false ≡ (p && false)
-and-false true = refl
-and-false false = refl
 
 and-true : (p : Bool) → p ≡ (p && true)
 and-true true = refl
@@ -28,7 +25,7 @@ module _ (before b : ℕ) where
   module _ (f : b ≡ 0 → ⊥) where
     pub follow-none : before ≡ 0 → false ≡ follows before b
     unfolding follows
-    follow-none e = rw (ne-eqb b 0 f, eq-eqb before 0 e) (and-false (isNameByte b))
+    follow-none e = rw (ne-eqb b 0 f, eq-eqb before 0 e) (sym (and-false (isNameByte b)))
 
     pub follow-some : {r : Bool} → (before ≡ 0 → ⊥) → r ≡ isNameByte b → r ≡ follows before b
     unfolding follows

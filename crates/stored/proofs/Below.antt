@@ -5,12 +5,9 @@ use Prim.Native.Nat.{ℕ, zero, suc, _+_, _<_, _≤_}
 use native.Mathlib.Numerals.{add-one}
 use native.Mathlib.Decide.{decLt}
 use native.Mathlib.Omega.{arith}
+use Rattle.chars.proofs.Laws.{and-false}
 use Rattle.model.specs.Repeats.{allBelow}
 use Rattle.stored.proofs.Tests.{failed, passed}
-
-and-false : (p : Bool) → (p && false) ≡ false
-and-false true = refl
-and-false false = refl
 
 module _ (p : ℕ → Bool) where
   pub below-none : allBelow 0 p ≡ true

@@ -1,6 +1,6 @@
 -- Runs over elements: one after another, and what a walk over some says of a walk over more.
 use mathlib.Core.Path.{_≡_, refl, sym, ap, _∙_}
-use mathlib.Core.Bool.{Bool, true, false, _||_}
+use mathlib.Core.Bool.{Bool, true, false}
 use mathlib.Core.List.{List, [], _∷_, _++_}
 use Prim.Native.Nat.{ℕ, suc, _*_}
 use native.Mathlib.Omega.{arith}
@@ -8,6 +8,7 @@ use lib.Dec.{ltb}
 use lib.ListN.{length}
 use borrow.Author.Tests.{ltb-false}
 use Rattle.chars.specs.Choice.{if_then_else_}
+use Rattle.chars.proofs.Laws.{or-left, or-right}
 use Rattle.properties.specs.Judged.{Judged, fault, fine, onward, unless}
 use Rattle.table.specs.Cells.{written}
 use Rattle.table.specs.Definitions.{Definition}
@@ -26,14 +27,6 @@ unless-fine : {A : Type 0} (b : Bool) (n p : ℕ) {rest : Judged A} {u : A} → 
 unfolding unless
 unless-fine true n p e = absurd (let z : _≡_ {A = ℕ} 0 1 = cc in omega arith)
 unless-fine false n p e = (refl, e)
-
-or-left : (a b : Bool) → (a || b) ≡ false → a ≡ false
-or-left true b e = e
-or-left false b e = refl
-
-or-right : (a b : Bool) → (a || b) ≡ false → b ≡ false
-or-right true b e = absurd (let z : _≡_ {A = ℕ} 0 1 = cc in omega arith)
-or-right false b e = e
 
 module _ (table : List Definition) where
   -- the log with an element

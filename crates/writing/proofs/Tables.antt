@@ -9,12 +9,12 @@ use lib.ListN.{length, drop, drop-of-length-le}
 use lib.Seq.{drop-cons}
 use borrow.Author.Tests.{ltb-false}
 use Rattle.chars.specs.Choice.{if_then_else_}
+use Rattle.chars.proofs.Laws.{or-right}
 use Rattle.parts.specs.declared.Name.{Name}
 use Rattle.suffixes.specs.Suffixes.{firstOf}
-use Rattle.suffixes.specs.declared.Fault.{Fault}
-use Rattle.suffixes.specs.declared.Fault.the-variants.{Sound, Broken}
+use Rattle.suffixes.specs.declared.Fault.the-variants.{Sound}
 use Rattle.components.specs.declared.BitPlace.{BitPlace}
-use Rattle.components.proofs.Laws.{first-sound}
+use Rattle.components.proofs.Laws.{first-sound, pass-test, pass-on}
 use Rattle.table.specs.Cells.{cellOf, componentIn, written}
 use Rattle.table.specs.Definitions.{Child, Definition, definitionOf}
 use Rattle.table.proofs.Laws.{written-length}
@@ -62,19 +62,6 @@ fields-few text table next (c ∷ cs) =
 unfoldable pub heldBy : List Definition → List Visit → ℕ
 heldBy table [] = 0
 heldBy table (v ∷ vs) = length (definitionOf table (v .type) .instances) + heldBy table vs
-
-or-right : (a b : Bool) → (a || b) ≡ false → b ≡ false
-or-right true b f = absurd (let z : _≡_ {A = ℕ} 0 1 = cc in omega arith)
-or-right false b f = f
-
-module _ (n p : ℕ) (x : Fault) where
-  pass-test : (b : Bool) → (if b then Broken n p else x) ≡ Sound → b ≡ false
-  pass-test true f = absurd (let z : _≡_ {A = ℕ} 0 1 = cc in omega arith)
-  pass-test false f = refl
-
-  pass-on : (b : Bool) → (if b then Broken n p else x) ≡ Sound → x ≡ Sound
-  pass-on true f = absurd (let z : _≡_ {A = ℕ} 0 1 = cc in omega arith)
-  pass-on false f = f
 
 held-add : (table : List Definition) (v : Visit) (vs : List Visit) (b : Bool) (fields : ℕ)
     → (if b then fields + length (definitionOf table (v .type) .instances) else fields) + heldBy table vs ≡ fields + heldBy table (if b then v ∷ vs else vs)

@@ -18,6 +18,6 @@ retry-spec =
     (λ c κs.
     let p1 = c .before .before .before .before in
     let p0 = p1 .before .before in
-    formed-ready (p0 .before .before .before .before .before .before .args .x) (p0 .before .is-well-formed .ensures) (p0 .if1 .left) _ _ _ _ (p1 .before .are-lawful .ensures) (p1 .if2 .left))
+    formed-ready (p0 .before .before .before .before .before .before .args .access) (p0 .before .is-well-formed .ensures) (p0 .if1 .left) _ _ _ _ (p1 .before .are-lawful .ensures) (p1 .if2 .left))
     (λ c. search retry-safe)
     (λ c. search retry-unsafe))
