@@ -48,7 +48,7 @@ def main():
     print("|---|---|---|---|")
     for label, text, fields, accesses in (
             ("examples/heron.rdl's register", HERON, 2, 50000), ("16 registers", post(16), 64, 5000),
-            ("128 registers", post(128), 512, 500), ("1,024 registers", post(1024), 4096, 100)):
+            ("128 registers", post(128), 512, 2000), ("1,024 registers", post(1024), 4096, 1000)):
         empty = seconds(pack(text, READ, 0))
         for name, code in (("read", READ), ("write", WRITE)):
             each = (seconds(pack(text, code, accesses)) - empty) / accesses
