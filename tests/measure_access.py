@@ -26,8 +26,8 @@ def post(registers):
 
 
 def pack(text, code, accesses):
-    """A pack of one case: the last register is not reached more often than the first."""
-    commands = [(RESET, 0, 0, 0)] + [(code, 0, 32, 0x01020304 % 2**32)] * accesses
+    """A pack of one case: a reset, then so many accesses of the first register."""
+    commands = [(RESET, 0, 0, 0)] + [(code, 0, 32, 0x01020304)] * accesses
     data = struct.pack("<I", len(text)) + text.encode() + struct.pack("<I", len(commands))
     return data + b"".join(struct.pack("<4Q", *command) for command in commands)
 
