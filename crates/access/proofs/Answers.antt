@@ -1,33 +1,34 @@
 -- Laws of the answers: one for each way that the code goes, and what an access that is not refused says of the rows and the store.
 use mathlib.Core.Bool.{Bool, true, false, not}
 use mathlib.Core.Path.{_≡_, refl, sym, ap, ap₂, _∙_}
-use mathlib.Core.List.{List}
+use mathlib.Core.List.{List, _++_}
 use Prim.Native.Nat.{ℕ, zero, suc, _/_, _<_, _≤_}
 use native.Mathlib.Omega.{arith}
-use lib.ListN.{length}
+use lib.ListN.{length, drop}
 use borrow.Author.Tests.{lt-ltb, le-ltb, ltb-false}
 use Rattle.chars.specs.Choice.{if_then_else_}
 use Rattle.chars.proofs.Laws.{and-left}
 use Rattle.settings.specs.Settings.{isWidth}
 use Rattle.components.specs.declared.Offset.{Offset}
+use Rattle.bits.specs.Bits.{number}
 use Rattle.rows.specs.Rows.{Tables, tables}
 use Rattle.rows.specs.Lawful.{lawful}
 use Rattle.rows.proofs.Registers.{width-bounds}
+use Rattle.model.specs.declared.StoredField.{StoredField}
 use Rattle.model.specs.declared.Access.{Access}
 use Rattle.model.specs.declared.Access.the-variants.{Read, Write}
 use Rattle.model.specs.declared.Answer.the-variants as answer
-use Rattle.model.specs.Model.{fits, addressOf, widthOf, wellFormed}
+use Rattle.model.specs.Model.{fits, addressOf, widthOf, wellFormed, stepped, gives, bitsOf, wordFrom}
 use Rattle.model.specs.Repeats.{repeats}
 use Rattle.stored.proofs.Tests.{failed, passed}
 use Rattle.access.specs.Stored.{storedFields}
 use Rattle.access.specs.declared.Restored.the-variants as restored
 use Rattle.access.specs.declared.Retried.the-variants as retried
 use Rattle.access.specs.Perform.{isShort, isReached, refusalOf, answerOf, storeAfter, resetRefusal, resetAnswer, storeReset, retryRefusal, retryOf}
-use Rattle.access.specs.Steps.{Ready, Stocked, AllFields, steppedRows, joinedRows, joinedWord, reachedRows, fittingRows, resetRows, repeatsRows}
-use Rattle.access.proofs.Facts.{rows-few, fields-few, all-fields, rows-ready, rows-stocked}
-use Rattle.access.proofs.Fields.{stored-count, stored-reached, stored-repeat}
-use Rattle.access.proofs.Stores.{stored-stepped, stored-fitting, stored-reset}
-use Rattle.access.proofs.Words.{stored-word}
+use Rattle.access.specs.Runs.{Sound, AllFields, allFields, reachedRows, fittingRows, resetsFrom}
+use Rattle.access.proofs.Facts.{rows-few, fields-few, all-fields}
+use Rattle.access.proofs.Fields.{stored-rows, stored-count, stored-reached}
+use Rattle.access.proofs.Stores.{stored-fitting, stored-reset}
 
 -- what the tests say that came before
 formed-width : (x : Access) → wellFormed x ≡ true → isWidth (widthOf x) ≡ true
@@ -38,8 +39,8 @@ module _ (x : Access) {a : Bool} (e : a ≡ wellFormed x) (y : not a ≡ false) 
   pub least-width : {w : ℕ} → w ≡ widthOf x → 8 ≤ w
   least-width q = rw q (width-bounds (widthOf x) (formed-width x (passed e y)) .0)
 
-  pub formed-ready : (registers paths fields labels : List ℕ) {b : Bool} → b ≡ lawful (tables registers paths fields labels) → not b ≡ false → Ready (widthOf x) registers fields
-  formed-ready registers paths fields labels f z = rows-ready (tables registers paths fields labels) (passed f z) (widthOf x) (formed-width x (passed e y))
+  pub formed-sound : (registers paths fields labels : List ℕ) {b : Bool} → b ≡ lawful (tables registers paths fields labels) → not b ≡ false → Sound (widthOf x) registers fields
+  formed-sound registers paths fields labels f z = record { paths = paths; labels = labels; rows = passed f z; width = formed-width x (passed e y) }
 
 module _ (registers paths fields labels : List ℕ) {b : Bool} (f : b ≡ lawful (tables registers paths fields labels)) (z : not b ≡ false) where
   pub few-rows : length registers / 14 ≤ 1024
@@ -101,10 +102,10 @@ module _ (t : Tables) (s : List ℕ) (x : Access) {a : Bool} (e : a ≡ wellForm
 
 -- the word of a read
 module _ {x : Access} {a : Offset} {w : ℕ} (registers fields : List ℕ) (e : x ≡ Read a w) where
-  pub read-ready : Ready (widthOf x) registers fields → Ready w registers fields
-  read-ready r = rw e at r
+  pub read-sound : Sound (widthOf x) registers fields → Sound w registers fields
+  read-sound r = rw e at r
 
-  pub read-word : (s : List ℕ) {n : ℕ} → n ≡ joinedRows a w registers fields 0 (length registers / 14) s 0 → n ≡ joinedWord x registers fields s
+  pub read-word : (s : List ℕ) {n : ℕ} → n ≡ number w (gives (allFields registers fields) a w (bitsOf s)) → n ≡ wordFrom (allFields registers fields) x (bitsOf s)
   read-word s f = rw e f
 
 -- the first refusal of the five tests, or 0
@@ -142,24 +143,21 @@ module _ (t : Tables) (s : List ℕ) (x : Access) where
     has-room : length (t .fields) / 8 ≤ length s
     has-room = omega (arith, stored-count t (is-granted .rows), ltb-false (length s) (length (storedFields t)) (is-granted .room))
 
-    is-ready : Ready (widthOf x) (t .registers) (t .fields)
-    is-ready = rows-ready t (is-granted .rows) (widthOf x) (formed-width x (is-granted .form))
+    is-sound : Sound (widthOf x) (t .registers) (t .fields)
+    is-sound = record { paths = t .paths; labels = t .labels; rows = is-granted .rows; width = formed-width x (is-granted .form) }
 
-    is-stocked : Stocked (t .registers) s
-    is-stocked = rows-stocked t (is-granted .rows) s has-room
-
-    pub answered-word : {w : ℕ} → w ≡ joinedWord x (t .registers) (t .fields) s → answer.Word w ≡ answerOf t s x
+    pub answered-word : {w : ℕ} → w ≡ wordFrom (allFields (t .registers) (t .fields)) x (bitsOf s) → answer.Word w ≡ answerOf t s x
     unfolding answerOf
-    answered-word f = rw (sym e ∙ z) (ap answer.Word (f ∙ stored-word x t (is-granted .rows) s))
+    answered-word f = rw (sym e ∙ z) (ap answer.Word (f ∙ ap (λ (m : List StoredField). wordFrom m x (bitsOf s)) (sym (stored-rows t))))
 
-    pub answered-store : {u : List ℕ} → u ≡ steppedRows x (t .registers) (t .fields) 0 (length (t .registers) / 14) s → u ≡ storeAfter t s x
+    pub answered-store : {u : List ℕ} → u ≡ stepped x (allFields (t .registers) (t .fields)) s → u ≡ storeAfter t s x
     unfolding storeAfter
-    answered-store f = rw (sym e ∙ z) (f ∙ stored-stepped x t (is-granted .rows) s has-room)
+    answered-store f = rw (sym e ∙ z) (f ∙ ap (λ (m : List StoredField). stepped x m s) (sym (stored-rows t)))
 
 -- what the functions of an access ask
 pub answered-asks : (registers paths fields labels s : List ℕ) (x : Access) {n : ℕ} → n ≡ refusalOf (tables registers paths fields labels) s x → n ≡ 0
-    → Ready (widthOf x) registers fields × Stocked registers s
-answered-asks registers paths fields labels s x e z = (is-ready (tables registers paths fields labels) s x e z, is-stocked (tables registers paths fields labels) s x e z)
+    → Sound (widthOf x) registers fields × (length fields / 8 ≤ length s)
+answered-asks registers paths fields labels s x e z = (is-sound (tables registers paths fields labels) s x e z, has-room (tables registers paths fields labels) s x e z)
 
 -- ---- a reset
 
@@ -187,9 +185,9 @@ module _ (t : Tables) (s : List ℕ) {b : Bool} (f : b ≡ lawful t) where
     unfolding resetAnswer resetRefusal
     reset-answer e = rw (passed f z, is-long t s (passed f z) h) (ap restored.Written (e ∙ sym (stored-count t (passed f z))))
 
-    pub reset-store : {u : List ℕ} → u ≡ resetRows (t .fields) 0 (length (t .fields) / 8) s → u ≡ storeReset t s
+    pub reset-store : {u : List ℕ} → u ≡ resetsFrom (t .fields) 0 (length (t .fields) / 8) ++ drop (length (t .fields) / 8) s → u ≡ storeReset t s
     unfolding storeReset resetRefusal
-    reset-store e = rw (passed f z, is-long t s (passed f z) h) (e ∙ stored-reset t (passed f z) s h)
+    reset-store e = rw (passed f z, is-long t s (passed f z) h) (e ∙ stored-reset t (passed f z) s)
 
 -- ---- whether an access may be sent again
 
@@ -209,9 +207,9 @@ module _ (t : Tables) (x : Access) {a : Bool} (e : a ≡ wellFormed x) where
       unfolding retryOf retryRefusal
       retry-reach v = rw (passed e y, passed f z, failed (reached-at t x (passed f z) k l m) v)
 
-      module _ {r : Bool} (v : not d ≡ false) (g : r ≡ repeatsRows x (t .registers) (t .fields) 0 (length (t .registers) / 14)) where
+      module _ {r : Bool} (v : not d ≡ false) (g : r ≡ repeats (allFields (t .registers) (t .fields)) x) where
         repeats-all : r ≡ repeats (storedFields t) x
-        repeats-all = g ∙ stored-repeat x t
+        repeats-all = g ∙ ap (λ (o : List StoredField). repeats o x) (sym (stored-rows t))
 
         pub retry-safe : r ≡ true → retried.Safe ≡ retryOf t x
         unfolding retryOf retryRefusal

@@ -17,7 +17,7 @@ use Rattle.rows.specs.declared.RegisterRow.{RegisterRow}
 use Rattle.rows.specs.Lawful.{registerRow, fieldRow, isPlaced, isRun, isPath, isRanged, isSoundField, isFieldRow, areFieldRows, isRegisterRow, areRows, areWhole, lawful}
 use Rattle.rows.proofs.Registers.{placed-most, run-fits, few-registers, few-fields, width-bounds}
 use Rattle.rows.proofs.Each.{register-each, field-each}
-use Rattle.access.specs.Steps.{Ready, Stocked, AllFields}
+use Rattle.access.specs.Runs.{Runs, AllFields}
 
 run-some : (all first : ℕ) (r : RegisterRow) → isRun all first r ≡ true → 0 < r .count
 unfolding isRun
@@ -28,15 +28,15 @@ module _ (t : Tables) (all i first : ℕ) (e : isRegisterRow t all i first ≡ t
   unfolding isRegisterRow
   row-width = placed-most (registerRow (t .registers) i) {r = true} (sym (and-left (isPlaced (registerRow (t .registers) i)) _ e)) refl
 
-  row-runs : isRun all first (registerRow (t .registers) i) ≡ true
+  is-run : isRun all first (registerRow (t .registers) i) ≡ true
   unfolding isRegisterRow
-  row-runs = and-left (isRun all first (registerRow (t .registers) i)) _ (and-right (isPlaced (registerRow (t .registers) i)) _ e)
+  is-run = and-left (isRun all first (registerRow (t .registers) i)) _ (and-right (isPlaced (registerRow (t .registers) i)) _ e)
 
   pub row-run : first + registerRow (t .registers) i .count ≤ all
-  row-run = run-fits all first (registerRow (t .registers) i) {s = true} (sym row-runs) refl
+  row-run = run-fits all first (registerRow (t .registers) i) {s = true} (sym is-run) refl
 
   pub row-some : 0 < registerRow (t .registers) i .count
-  row-some = run-some all first (registerRow (t .registers) i) row-runs
+  row-some = run-some all first (registerRow (t .registers) i) is-run
 
   row-fields : areFieldRows (t .fields) (t .labels) (registerRow (t .registers) i .width) first (registerRow (t .registers) i .count) ≡ true
   unfolding isRegisterRow
@@ -110,28 +110,21 @@ module _ (t : Tables) (e : lawful t ≡ true) where
   pub all-fields : AllFields (t .fields)
   all-fields = record { few = fields-few; order = λ j h. all-within j h .order; top = λ j h. all-within j h .top }
 
-  -- what an access of a width asks of each register
-  pub rows-ready : (w : ℕ) → isWidth w ≡ true → Ready w (t .registers) (t .fields)
-  rows-ready w y =
+  -- what an access of a width asks of a register
+  pub row-runs : (w : ℕ) → isWidth w ≡ true → (i : ℕ) → i < length (t .registers) / 14 → Runs w (t .fields) (registerRow (t .registers) i)
+  row-runs w y i h =
+      let own : isRegisterRow t (length (t .fields) / 8) i (registerRow (t .registers) i .first) ≡ true = register-each t e i h in
       record {
-        few = rows-few;
-        each =
-            λ i h.
-            let own : isRegisterRow t (length (t .fields) / 8) i (registerRow (t .registers) i .first) ≡ true = register-each t e i h in
-            record {
-              few = omega (arith, row-run t (length (t .fields) / 8) i (registerRow (t .registers) i .first) own, fields-few);
-              usable =
-                  λ k l.
-                  let q : Within (registerRow (t .registers) i .width) (fieldRow (t .fields) (registerRow (t .registers) i .first + k)) =
-                  run-within t (length (t .fields) / 8) i (registerRow (t .registers) i .first) own k l in
-                  let m : registerRow (t .registers) i .width ≤ 64 = row-width t (length (t .fields) / 8) i (registerRow (t .registers) i .first) own in
-                  record { least = width-bounds w y .0; most = width-bounds w y .1; register = m; order = q .order; top = omega (arith, q .top) };
-            };
+        few = omega (arith, row-run t (length (t .fields) / 8) i (registerRow (t .registers) i .first) own, fields-few);
+        usable =
+            λ k l.
+            let q : Within (registerRow (t .registers) i .width) (fieldRow (t .fields) (registerRow (t .registers) i .first + k)) =
+            run-within t (length (t .fields) / 8) i (registerRow (t .registers) i .first) own k l in
+            let m : registerRow (t .registers) i .width ≤ 64 = row-width t (length (t .fields) / 8) i (registerRow (t .registers) i .first) own in
+            record { least = width-bounds w y .0; most = width-bounds w y .1; register = m; order = q .order; top = omega (arith, q .top) };
       }
 
-  pub rows-stocked : (s : List ℕ) → length (t .fields) / 8 ≤ length s → Stocked (t .registers) s
-  rows-stocked s h =
-      record {
-        room =
-            λ i l. omega (arith, row-run t (length (t .fields) / 8) i (registerRow (t .registers) i .first) (register-each t e i l));
-      }
+  -- the store has its numbers
+  pub row-room : (s : List ℕ) → length (t .fields) / 8 ≤ length s → (i : ℕ) → i < length (t .registers) / 14
+      → registerRow (t .registers) i .first + registerRow (t .registers) i .count ≤ length s
+  row-room s h i l = omega (arith, row-run t (length (t .fields) / 8) i (registerRow (t .registers) i .first) (register-each t e i l))

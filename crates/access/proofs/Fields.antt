@@ -1,10 +1,10 @@
 -- The stored fields of lawful rows, as the loops go through them.
 use mathlib.Core.Path.{_≡_, refl, sym, ap, ap₂, _∙_}
-use mathlib.Core.Bool.{Bool, true, false, _&&_, _||_}
+use mathlib.Core.Bool.{Bool, true, false, _||_}
 use mathlib.Core.List.{List, [], _∷_, _++_}
 use Prim.Native.Nat.{ℕ, zero, suc, _+_, _-_, _/_, _<_, _≤_}
 use native.Mathlib.Omega.{arith}
-use lib.ListN.{length}
+use lib.ListN.{length, length-append}
 use borrow.Author.Tests.{eqb-true}
 use Rattle.components.specs.declared.FieldAt.{FieldAt}
 use Rattle.components.specs.declared.Offset.{Offset}
@@ -15,12 +15,11 @@ use Rattle.rows.specs.Lawful.{registerRow, fieldRow, isRegisterRow, areRows, ar
 use Rattle.rows.specs.Reading.{fieldsFrom, entryIn, entriesFrom}
 use Rattle.rows.proofs.Each.{row-first}
 use Rattle.model.specs.declared.StoredField.{StoredField}
-use Rattle.model.specs.declared.Access.{Access}
-use Rattle.model.specs.Model.{anyReached, reachesRegister, size}
-use Rattle.model.specs.Repeats.{repeats, allBelow, repeatsBit}
+use Rattle.model.specs.Model.{anyReached, reachesRegister}
 use Rattle.access.specs.Stored.{storedIn, storedAmong, storedFields}
-use Rattle.access.specs.Steps.{registerOf, storedField, runFields, rowFields, storedRows, reachedRows, repeatsRows}
+use Rattle.access.specs.Runs.{registerOf, storedField, runFields, rowFields, storedRows, allFields, reachedRows}
 use Rattle.access.proofs.Facts.{row-run, row-some}
+use Rattle.access.proofs.Joined.{length-run}
 
 -- ---- the fields that stand in the tables are those of the rows
 
@@ -35,13 +34,8 @@ among-stored t i zero = refl
 among-stored t i (suc n) =
     ap₂ (λ (a b : List StoredField). a ++ b) (run-stored t i (registerRow (t .registers) i .first) (registerRow (t .registers) i .count)) (among-stored t (suc i) n)
 
-pub stored-rows : (t : Tables) → storedFields t ≡ storedRows (t .registers) (t .fields) 0 (length (t .registers) / 14)
+pub stored-rows : (t : Tables) → storedFields t ≡ allFields (t .registers) (t .fields)
 stored-rows t = among-stored t 0 (length (t .registers) / 14)
-
-pub length-run : (r : RegisterRow) (fields : List ℕ) (j n : ℕ) → length (runFields r fields j n) ≡ n
-unfolding runFields
-length-run r fields j zero = refl
-length-run r fields j (suc n) = ap suc (length-run r fields (suc j) n)
 
 -- ---- the field rows, one after the other
 
@@ -132,24 +126,26 @@ pub stored-reached : (a : Offset) (w : ℕ) (t : Tables) → lawful t ≡ true �
 stored-reached a w t e =
     rows-reached a w t (length (t .fields) / 8) 0 0 (length (t .registers) / 14) (whole-rows t e) ∙ ap (λ (m : List StoredField). anyReached m a w) (sym (stored-rows t))
 
--- ---- fields that let an access be made again
+-- ---- where the fields of a register stand
 
-and-assoc : (a b c : Bool) → (a && (b && c)) ≡ ((a && b) && c)
-and-assoc true b c = refl
-and-assoc false b c = refl
+rows-length : (t : Tables) (all i first n k : ℕ) → areRows t all i first n ≡ true → k < n → first + length (storedRows (t .registers) (t .fields) i k) ≡ registerRow (t .registers) (i + k) .first
+unfolding areRows storedRows
+rows-length t all i first zero k e h = absurd (omega arith)
+rows-length t all i first (suc n) zero e h =
+    let z : i ≡ i + 0 = omega arith in
+    let y : first + 0 ≡ first = omega arith in
+    y ∙ sym (row-first t all i first (and-left (isRegisterRow t all i first) _ e)) ∙ ap (λ (j : ℕ). registerRow (t .registers) j .first) z
+rows-length t all i first (suc n) (suc k) e h =
+    let r : RegisterRow = registerRow (t .registers) i in
+    let rest : List StoredField = storedRows (t .registers) (t .fields) (suc i) k in
+    let l : length (rowFields r (t .fields) ++ rest) ≡ r .count + length rest = length-append (rowFields r (t .fields)) rest ∙ ap (λ (m : ℕ). m + length rest) (length-run r (t .fields) (r .first) (r .count)) in
+    let y : first + length (rowFields r (t .fields) ++ rest) ≡ (first + r .count) + length rest = omega (arith, l) in
+    let z : suc i + k ≡ i + suc k = omega arith in
+    y ∙ rows-length t all (suc i) (first + r .count) n k (and-right (isRegisterRow t all i first) _ e) (omega arith) ∙ ap (λ (j : ℕ). registerRow (t .registers) j .first) z
 
-repeats-join : (x : Access) (l m : List StoredField) → repeats (l ++ m) x ≡ repeats l x && repeats m x
-unfolding repeats
-repeats-join x [] m = refl
-repeats-join x (c ∷ l) m =
-    ap (λ (b : Bool). allBelow (size c) (repeatsBit x c) && b) (repeats-join x l m) ∙ and-assoc (allBelow (size c) (repeatsBit x c)) (repeats l x) (repeats m x)
-
-rows-repeat : (x : Access) (registers fields : List ℕ) (i n : ℕ) → repeatsRows x registers fields i n ≡ repeats (storedRows registers fields i n) x
-unfolding repeatsRows storedRows repeats
-rows-repeat x registers fields i zero = refl
-rows-repeat x registers fields i (suc n) =
-    ap (λ (b : Bool). repeats (rowFields (registerRow registers i) fields) x && b) (rows-repeat x registers fields (suc i) n)
-    ∙ sym (repeats-join x (rowFields (registerRow registers i) fields) (storedRows registers fields (suc i) n))
-
-pub stored-repeat : (x : Access) (t : Tables) → repeatsRows x (t .registers) (t .fields) 0 (length (t .registers) / 14) ≡ repeats (storedFields t) x
-stored-repeat x t = rows-repeat x (t .registers) (t .fields) 0 (length (t .registers) / 14) ∙ ap (λ (m : List StoredField). repeats m x) (sym (stored-rows t))
+-- behind those of the registers before it
+pub stored-first : (t : Tables) → lawful t ≡ true → (i : ℕ) → i < length (t .registers) / 14 → length (storedRows (t .registers) (t .fields) 0 i) ≡ registerRow (t .registers) i .first
+stored-first t e i h =
+    let z : 0 + i ≡ i = omega arith in
+    let y : length (storedRows (t .registers) (t .fields) 0 i) ≡ 0 + length (storedRows (t .registers) (t .fields) 0 i) = omega arith in
+    y ∙ rows-length t (length (t .fields) / 8) 0 0 (length (t .registers) / 14) i (whole-rows t e) h ∙ ap (λ (j : ℕ). registerRow (t .registers) j .first) z

@@ -1,6 +1,6 @@
 pub mod Facts
+pub mod Joined
 pub mod Fields
 pub mod Stores
-pub mod Words
 pub mod Loops
 pub mod Answers

@@ -1,25 +1,32 @@
--- Laws of the loops: what is left from here, done on the present state, is what was to be done at the start.
-use mathlib.Core.Bool.{Bool, true, false, not}
-use mathlib.Core.Path.{_≡_, refl, sym, ap, _∙_}
-use mathlib.Core.List.{List}
-use Prim.Native.Nat.{ℕ, suc, _+_, _-_, _/_, _^_, _<_, _≤_}
+-- Laws of the loops: what has been done so far, or what is left from here, comes to the whole.
+use mathlib.Core.Bool.{Bool, true, false, not, _&&_}
+use mathlib.Core.Path.{_≡_, refl, sym, ap, ap₂, _∙_, fun-ext}
+use mathlib.Core.List.{List, [], _∷_, _++_, append-nil}
+use Prim.Native.Nat.{ℕ, zero, suc, _+_, _-_, _/_, _^_, _<_, _≤_}
 use native.Mathlib.Omega.{arith}
 use lib.Bits.{bitOr}
 use lib.Dec.{leb}
-use lib.ListN.{length, getD, set}
+use lib.ListN.{length, getD, set, take, drop, length-drop}
+use lib.Seq.{drop-cons, drop-drop, drop-length, set-at, append-snoc, getD-drop, take-all}
+use borrow.Rule.Slice.PartMut.{putMid, midOf}
+use Rattle.settings.specs.Settings.{isWidth}
 use Rattle.components.specs.declared.FieldAt.{FieldAt}
 use Rattle.components.specs.declared.Offset.{Offset}
 use Rattle.components.specs.declared.Register.{Register}
 use Rattle.bits.specs.Bits.{bit, number}
+use Rattle.rows.specs.Rows.{Tables, tables}
 use Rattle.rows.specs.declared.RegisterRow.{RegisterRow}
-use Rattle.rows.specs.Lawful.{registerRow, fieldRow}
+use Rattle.rows.specs.Lawful.{registerRow, fieldRow, lawful}
 use Rattle.model.specs.declared.StoredField.{StoredField}
 use Rattle.model.specs.declared.Access.{Access}
-use Rattle.model.specs.Model.{size, numberAfter, fieldGives, reachesRegister}
+use Rattle.model.specs.Model.{size, numberAfter, stepped, fieldGives, gives, bitsOf, reachesRegister}
 use Rattle.model.specs.Repeats.{repeats, allBelow, repeatsBit}
 use Rattle.stored.specs.Ranges.{Usable}
 use Rattle.stored.proofs.Tests.{failed, passed, fits-yes}
-use Rattle.access.specs.Steps.{Runs, Ready, Stocked, AllFields, registerOf, storedField, runFields, rowFields, steppedFrom, steppedRows, joinedFrom, joinedRows, reachedRows, isFitting, fittingRows, resetIn, resetRows, repeatsRows}
+use Rattle.access.specs.Runs.{Sound, Runs, AllFields, registerOf, storedField, runFields, rowFields, storedRows, allFields, reachedRows, isFitting, fittingRows, resetIn, resetsFrom}
+use Rattle.access.proofs.Facts as facts
+use Rattle.access.proofs.Joined.{rows-last, length-stepped, stepped-field, stepped-more, word-more, word-field, no-word, repeats-more}
+use Rattle.access.proofs.Fields.{stored-first}
 
 -- the numbers of a loop's start, step and end
 module _ (start k : ℕ) where
@@ -46,6 +53,17 @@ module _ (n : ℕ) where
   all-left : n - 0 ≡ n
   all-left = omega arith
 
+-- ---- a part of a slice that goes to its end
+
+mid-tail : (n : ℕ) (s : List ℕ) → midOf n (length s - n) s ≡ drop n s
+mid-tail n s = take-all (length s - n) (drop n s) (omega (arith, length-drop n s))
+
+put-tail : (n : ℕ) (s u : List ℕ) → n ≤ length s → putMid n (length s - n) s u ≡ take n s ++ u
+put-tail n s u h =
+    let z : n + (length s - n) ≡ length s = omega arith in
+    ap (λ (l : List ℕ). take n s ++ (u ++ l)) (drop-drop (length s - n) n s ∙ ap (λ (k : ℕ). drop k s) z ∙ drop-length s)
+    ∙ ap (λ (l : List ℕ). take n s ++ l) (append-nil u)
+
 -- ---- one register, and one field
 
 -- the field at a field row, of which calls answer the parts
@@ -57,12 +75,30 @@ pub field-usable : (w : ℕ) (row : RegisterRow) (fields : List ℕ) (k : ℕ) {
     → c ≡ storedField row f → Usable w c
 field-usable w row fields k r h p q = rw (field-at row fields (row .first + k) p q) (r .usable k h)
 
-pub row-runs : (w : ℕ) (registers fields : List ℕ) (i : ℕ) {row : RegisterRow} → Ready w registers fields → i < length registers / 14 → row ≡ registerRow registers i → Runs w fields row
-row-runs w registers fields i r h p = rw p (r .each i h)
+abbrev rowsOf : {w : ℕ} {registers fields : List ℕ} → Sound w registers fields → Tables
+rowsOf {registers = registers} {fields = fields} r = tables registers (r .paths) fields (r .labels)
 
-pub row-room : (registers before s : List ℕ) (i : ℕ) {row : RegisterRow} → Stocked registers before → length s ≡ length before → i < length registers / 14 → row ≡ registerRow registers i
-    → row .first + row .count ≤ length s
-row-room registers before s i r e h p = rw (p, e) (r .room i h)
+module _ (w : ℕ) (registers fields : List ℕ) (i : ℕ) (r : Sound w registers fields) (h : i < length registers / 14) where
+  pub row-small : i ≤ 1048576
+  row-small = omega (arith, facts.rows-few (rowsOf r) (r .rows))
+
+  module _ {row : RegisterRow} (p : row ≡ registerRow registers i) where
+    pub row-runs : Runs w fields row
+    row-runs = rw p (facts.row-runs (rowsOf r) (r .rows) w (r .width) i h)
+
+    pub row-few : row .first ≤ 4096
+    row-few = omega (arith, row-runs .few)
+
+    -- the store has a register's numbers
+    module _ (s₀ s : List ℕ) (l : length fields / 8 ≤ length s₀) (e : length s ≡ length s₀) where
+      row-room : row .first + row .count ≤ length s
+      row-room = rw (p, e) (facts.row-room (rowsOf r) (r .rows) s₀ l i h)
+
+      pub row-below : row .first ≤ length s
+      row-below = omega (arith, row-room)
+
+      pub row-left : row .count ≤ length (midOf (row .first) (length s - row .first) s)
+      row-left = omega (arith, row-room, ap length (mid-tail (row .first) s), length-drop (row .first) s)
 
 module _ (fields : List ℕ) (j : ℕ) {f : FieldAt} (r : AllFields fields) (h : j < length fields / 8) (p : f ≡ fieldRow fields j) where
   pub field-order : f .low .0 ≤ f .high .0
@@ -71,71 +107,95 @@ module _ (fields : List ℕ) (j : ℕ) {f : FieldAt} (r : AllFields fields) (h :
   pub field-top : f .high .0 < 64
   field-top = rw p (r .top j h)
 
+-- the bits of such a part
+bits-behind : (n : ℕ) (s : List ℕ) → bitsOf (midOf n (length s - n) s) ≡ (λ (f : ℕ). bitsOf s (n + f))
+bits-behind n s = ap bitsOf (mid-tail n s) ∙ fun-ext (λ f. ap bit (getD-drop n s f 0))
+
+-- a register's fields behind those of the registers before it
+row-behind : (registers fields : List ℕ) (i : ℕ) {row : RegisterRow} → row ≡ registerRow registers i
+    → storedRows registers fields 0 i ++ rowFields row fields ≡ storedRows registers fields 0 (i + 1)
+row-behind registers fields i p =
+    let z : i ≡ 0 + i = omega arith in
+    ap (λ (o : RegisterRow). storedRows registers fields 0 i ++ rowFields o fields) (p ∙ ap (registerRow registers) z)
+    ∙ sym (rows-last registers fields 0 i)
+    ∙ ap (storedRows registers fields 0) (sym (next-k i))
+
 -- ---- an access
 
-module _ (x : Access) (row : RegisterRow) (fields : List ℕ) (first count : ℕ) where
-  pub step-start : (s : List ℕ) → steppedFrom x (runFields row fields (first + 0) (count - 0)) (first + 0) s ≡ steppedFrom x (runFields row fields first count) first s
-  step-start s = rw (at-start first, all-left count)
+module _ (x : Access) (row : RegisterRow) (fields : List ℕ) (first : ℕ) where
+  pub step-start : (s : List ℕ) → s ≡ stepped x (runFields row fields first 0) s
+  unfolding runFields stepped
+  step-start s = refl
 
-  module _ (k : ℕ) (s : List ℕ) {y : List ℕ} (left : steppedFrom x (runFields row fields (first + k) (count - k)) (first + k) s ≡ y) where
-    pub step-end : count ≤ k → s ≡ y
-    unfolding runFields steppedFrom
-    step-end h = rw (left-none count k h) at left
+  module _ (k : ℕ) (s₀ s : List ℕ) (done : s ≡ stepped x (runFields row fields first k) s₀) where
+    pub step-end : (count : ℕ) → k ≤ count → count ≤ k → s ≡ stepped x (runFields row fields first count) s₀
+    step-end count l h = let z : k ≡ count = omega arith in rw (← z) done
 
-    pub step-on : {f : FieldAt} {c : StoredField} {n : ℕ} → k < count → f ≡ fieldRow fields (first + k) → c ≡ storedField row f → n ≡ numberAfter x c (getD s (first + k) 0)
-        → steppedFrom x (runFields row fields (first + (k + 1)) (count - (k + 1))) (first + (k + 1)) (set s (first + k) n) ≡ y
-    unfolding runFields steppedFrom
-    step-on h p q e = rw (next-at first k, e, field-at row fields (first + k) p q) (rw (left-more count k h) at left)
+    pub step-on : {f : FieldAt} {c : StoredField} {n : ℕ} → k < length s₀ → f ≡ fieldRow fields (first + k) → c ≡ storedField row f → n ≡ numberAfter x c (getD s k 0)
+        → set s k n ≡ stepped x (runFields row fields first (k + 1)) s₀
+    step-on h p q e = rw (next-k k, e, field-at row fields (first + k) p q, done) (stepped-field x row fields first k s₀ h)
 
 pub ruleset step-loop = (step-start, step-end, step-on)
 
-module _ (x : Access) (registers fields : List ℕ) (count : ℕ) where
-  pub steps-start : (s : List ℕ) → steppedRows x registers fields 0 (count - 0) s ≡ steppedRows x registers fields 0 count s
-  steps-start s = rw (all-left count)
+module _ (x : Access) (registers fields : List ℕ) where
+  pub steps-start : (s : List ℕ) → s ≡ stepped x (storedRows registers fields 0 0) s
+  unfolding storedRows stepped
+  steps-start s = refl
 
-  module _ (i : ℕ) (s : List ℕ) {y : List ℕ} (left : steppedRows x registers fields i (count - i) s ≡ y) where
-    pub steps-end : count ≤ i → s ≡ y
-    unfolding steppedRows
-    steps-end h = rw (left-none count i h) at left
+  module _ (i : ℕ) (s₀ s : List ℕ) (done : s ≡ stepped x (storedRows registers fields 0 i) s₀) where
+    pub steps-end : (count : ℕ) → i ≤ count → count ≤ i → s ≡ stepped x (storedRows registers fields 0 count) s₀
+    steps-end count l h = let z : i ≡ count = omega arith in rw (← z) done
 
-    pub steps-on : {row : RegisterRow} {u : List ℕ} → i < count → row ≡ registerRow registers i → u ≡ steppedFrom x (rowFields row fields) (row .first) s
-        → steppedRows x registers fields (i + 1) (count - (i + 1)) u ≡ y
-    unfolding steppedRows
-    steps-on h p e = rw (next-k i, e, p) (rw (rows-more count i h) at left)
+    pub steps-on : {w : ℕ} {row : RegisterRow} {u : List ℕ} → Sound w registers fields → i < length registers / 14 → length fields / 8 ≤ length s₀ → row ≡ registerRow registers i
+        → u ≡ stepped x (rowFields row fields) (midOf (row .first) (length s - row .first) s)
+        → putMid (row .first) (length s - row .first) s u ≡ stepped x (storedRows registers fields 0 (i + 1)) s₀
+    steps-on {row = row} {u = u} r h l p e =
+        let m : List StoredField = storedRows registers fields 0 i in
+        let f : length m ≡ row .first = stored-first (rowsOf r) (r .rows) i h ∙ ap (λ (o : RegisterRow). o .first) (sym p) in
+        let k : length s ≡ length s₀ = ap length done ∙ length-stepped x m s₀ in
+        put-tail (row .first) s u (omega (arith, k, row-below _ registers fields i r h p s₀ s l k))
+        ∙ ap (λ (o : List ℕ). take (row .first) s ++ o) (e ∙ ap (stepped x (rowFields row fields)) (mid-tail (row .first) s))
+        ∙ ap₂ (λ (n : ℕ) (o : List ℕ). take n o ++ stepped x (rowFields row fields) (drop n o)) (sym f) done
+        ∙ stepped-more x m (rowFields row fields) s₀
+        ∙ ap (λ (o : List StoredField). stepped x o s₀) (row-behind registers fields i p)
 
 pub ruleset steps-loop = (steps-start, steps-end, steps-on)
 
 -- ---- the word of a read
 
-module _ (a : Offset) (w : ℕ) (row : RegisterRow) (fields : List ℕ) (first count : ℕ) (s : List ℕ) where
-  pub join-start : (word : ℕ) → joinedFrom a w (runFields row fields (first + 0) (count - 0)) (first + 0) s word ≡ joinedFrom a w (runFields row fields first count) first s word
-  join-start word = rw (at-start first, all-left count)
+module _ (a : Offset) (w : ℕ) (row : RegisterRow) (fields : List ℕ) (first : ℕ) (s : List ℕ) where
+  pub join-start : 0 ≡ number w (gives (runFields row fields first 0) a w (bitsOf s))
+  unfolding runFields gives
+  join-start = sym (no-word w)
 
-  module _ (k word : ℕ) {y : ℕ} (left : joinedFrom a w (runFields row fields (first + k) (count - k)) (first + k) s word ≡ y) where
-    pub join-end : count ≤ k → word ≡ y
-    unfolding runFields joinedFrom
-    join-end h = rw (left-none count k h) at left
+  module _ (k word : ℕ) (done : word ≡ number w (gives (runFields row fields first k) a w (bitsOf s))) where
+    pub join-end : (count : ℕ) → k ≤ count → count ≤ k → word ≡ number w (gives (runFields row fields first count) a w (bitsOf s))
+    join-end count l h = let z : k ≡ count = omega arith in rw (← z) done
 
-    pub join-on : {f : FieldAt} {c : StoredField} {n : ℕ} → k < count → f ≡ fieldRow fields (first + k) → c ≡ storedField row f → n ≡ number w (fieldGives a w c (bit (getD s (first + k) 0)))
-        → joinedFrom a w (runFields row fields (first + (k + 1)) (count - (k + 1))) (first + (k + 1)) s (bitOr word n) ≡ y
-    unfolding runFields joinedFrom
-    join-on h p q e = rw (next-at first k, e, field-at row fields (first + k) p q) (rw (left-more count k h) at left)
+    pub join-on : {f : FieldAt} {c : StoredField} {n : ℕ} → f ≡ fieldRow fields (first + k) → c ≡ storedField row f → n ≡ number w (fieldGives a w c (bit (getD s k 0)))
+        → bitOr word n ≡ number w (gives (runFields row fields first (k + 1)) a w (bitsOf s))
+    join-on p q e = rw (next-k k, e, field-at row fields (first + k) p q, done) (word-field row fields first k a w (bitsOf s))
 
 pub ruleset join-loop = (join-start, join-end, join-on)
 
-module _ (a : Offset) (w : ℕ) (registers fields : List ℕ) (count : ℕ) (s : List ℕ) where
-  pub joins-start : joinedRows a w registers fields 0 (count - 0) s 0 ≡ joinedRows a w registers fields 0 count s 0
-  joins-start = rw (all-left count)
+module _ (a : Offset) (w : ℕ) (registers fields : List ℕ) (s : List ℕ) where
+  pub joins-start : 0 ≡ number w (gives (storedRows registers fields 0 0) a w (bitsOf s))
+  unfolding storedRows gives
+  joins-start = sym (no-word w)
 
-  module _ (i word : ℕ) {y : ℕ} (left : joinedRows a w registers fields i (count - i) s word ≡ y) where
-    pub joins-end : count ≤ i → word ≡ y
-    unfolding joinedRows
-    joins-end h = rw (left-none count i h) at left
+  module _ (i word : ℕ) (done : word ≡ number w (gives (storedRows registers fields 0 i) a w (bitsOf s))) where
+    pub joins-end : (count : ℕ) → i ≤ count → count ≤ i → word ≡ number w (gives (storedRows registers fields 0 count) a w (bitsOf s))
+    joins-end count l h = let z : i ≡ count = omega arith in rw (← z) done
 
-    pub joins-on : {row : RegisterRow} {u : ℕ} → i < count → row ≡ registerRow registers i → u ≡ joinedFrom a w (rowFields row fields) (row .first) s word
-        → joinedRows a w registers fields (i + 1) (count - (i + 1)) s u ≡ y
-    unfolding joinedRows
-    joins-on h p e = rw (next-k i, e, p) (rw (rows-more count i h) at left)
+    pub joins-on : {row : RegisterRow} {n : ℕ} → Sound w registers fields → i < length registers / 14 → row ≡ registerRow registers i
+        → n ≡ number w (gives (rowFields row fields) a w (bitsOf (midOf (row .first) (length s - row .first) s)))
+        → bitOr word n ≡ number w (gives (storedRows registers fields 0 (i + 1)) a w (bitsOf s))
+    joins-on {row = row} r h p e =
+        let m : List StoredField = storedRows registers fields 0 i in
+        let f : length m ≡ row .first = stored-first (rowsOf r) (r .rows) i h ∙ ap (λ (o : RegisterRow). o .first) (sym p) in
+        ap₂ bitOr done (e ∙ ap (λ (b : ℕ → ℕ → Bool). number w (gives (rowFields row fields) a w b)) (bits-behind (row .first) s ∙ ap {B = ℕ → ℕ → Bool} (λ (n : ℕ) (g : ℕ). bitsOf s (n + g)) (sym f)))
+        ∙ word-more m (rowFields row fields) a w (bitsOf s)
+        ∙ ap (λ (o : List StoredField). number w (gives o a w (bitsOf s))) (row-behind registers fields i p)
 
 pub ruleset joins-loop = (joins-start, joins-end, joins-on)
 
@@ -194,18 +254,36 @@ pub ruleset fit-loop = (fit-start, fit-end, fit-stop, fit-on)
 
 -- ---- a reset
 
-module _ (fields : List ℕ) (count : ℕ) where
-  pub reset-start : (s : List ℕ) → resetRows fields 0 (count - 0) s ≡ resetRows fields 0 count s
-  reset-start s = rw (all-left count)
+length-resets : (fields : List ℕ) (j n : ℕ) → length (resetsFrom fields j n) ≡ n
+unfolding resetsFrom
+length-resets fields j zero = refl
+length-resets fields j (suc n) = ap suc (length-resets fields (suc j) n)
 
-  module _ (j : ℕ) (s : List ℕ) {y : List ℕ} (left : resetRows fields j (count - j) s ≡ y) where
-    pub reset-end : count ≤ j → s ≡ y
-    unfolding resetRows
-    reset-end h = rw (left-none count j h) at left
+resets-last : (fields : List ℕ) (j n : ℕ) → resetsFrom fields j (suc n) ≡ resetsFrom fields j n ++ (resetIn (fieldRow fields (j + n)) ∷ [])
+unfolding resetsFrom
+resets-last fields j zero = let z : j ≡ j + 0 = omega arith in ap (λ (k : ℕ). resetIn (fieldRow fields k) ∷ []) z
+resets-last fields j (suc n) =
+    let z : suc j + n ≡ j + suc n = omega arith in
+    ap (λ (l : List ℕ). resetIn (fieldRow fields j) ∷ l) (resets-last fields (suc j) n)
+    ∙ ap (λ (k : ℕ). resetIn (fieldRow fields j) ∷ (resetsFrom fields (suc j) n ++ (resetIn (fieldRow fields k) ∷ []))) z
 
-    pub reset-on : {f : FieldAt} {n : ℕ} → j < count → f ≡ fieldRow fields j → n ≡ resetIn f → resetRows fields (j + 1) (count - (j + 1)) (set s j n) ≡ y
-    unfolding resetRows
-    reset-on h p e = rw (next-k j, e, p) (rw (rows-more count j h) at left)
+module _ (fields : List ℕ) where
+  pub reset-start : (s : List ℕ) → s ≡ resetsFrom fields 0 0 ++ drop 0 s
+  unfolding resetsFrom
+  reset-start s = refl
+
+  module _ (j : ℕ) (s₀ s : List ℕ) (done : s ≡ resetsFrom fields 0 j ++ drop j s₀) where
+    pub reset-end : (count : ℕ) → j ≤ count → count ≤ j → s ≡ resetsFrom fields 0 count ++ drop count s₀
+    reset-end count l h = let z : j ≡ count = omega arith in rw (← z) done
+
+    pub reset-on : {f : FieldAt} {n : ℕ} → j < length s₀ → f ≡ fieldRow fields j → n ≡ resetIn f → set s j n ≡ resetsFrom fields 0 (j + 1) ++ drop (j + 1) s₀
+    reset-on {f = f} {n = n} h p e =
+        let z : 0 + j ≡ j = omega arith in
+        ap (λ (l : List ℕ). set l j n) (done ∙ ap (λ (l : List ℕ). resetsFrom fields 0 j ++ l) (drop-cons s₀ j 0 h))
+        ∙ set-at (resetsFrom fields 0 j) (getD s₀ j 0) (drop (suc j) s₀) n j (length-resets fields 0 j)
+        ∙ sym (append-snoc (resetsFrom fields 0 j) n (drop (suc j) s₀))
+        ∙ ap (λ (l : List ℕ). l ++ drop (suc j) s₀) (ap (λ (v : ℕ). resetsFrom fields 0 j ++ (v ∷ [])) (e ∙ ap resetIn (p ∙ ap (fieldRow fields) (sym z))) ∙ sym (resets-last fields 0 j))
+        ∙ ap (λ (k : ℕ). resetsFrom fields 0 k ++ drop k s₀) (sym (next-k j))
 
 pub ruleset reset-loop = (reset-start, reset-end, reset-on)
 
@@ -235,24 +313,26 @@ module _ (x : Access) (row : RegisterRow) (fields : List ℕ) (first count : ℕ
 pub ruleset again-loop = (again-start, again-end, again-stop, again-on)
 
 module _ (x : Access) (registers fields : List ℕ) (count : ℕ) where
-  pub repeat-start : repeatsRows x registers fields 0 (count - 0) ≡ repeatsRows x registers fields 0 count
+  pub repeat-start : repeats (storedRows registers fields 0 (count - 0)) x ≡ repeats (storedRows registers fields 0 count) x
   repeat-start = rw (all-left count)
 
-  module _ (i : ℕ) {y : Bool} (left : repeatsRows x registers fields i (count - i) ≡ y) where
+  module _ (i : ℕ) {y : Bool} (left : repeats (storedRows registers fields i (count - i)) x ≡ y) where
     pub repeat-end : count ≤ i → true ≡ y
-    unfolding repeatsRows
+    unfolding storedRows repeats
     repeat-end h = rw (left-none count i h) at left
 
     module _ {row : RegisterRow} {r : Bool} (h : i < count) (p : row ≡ registerRow registers i) (e : r ≡ repeats (rowFields row fields) x) where
       repeat-at : r ≡ repeats (rowFields (registerRow registers i) fields) x
       repeat-at = rw (← p) e
 
-      pub repeat-stop : not r ≡ true → false ≡ y
-      unfolding repeatsRows
-      repeat-stop z = rw (rows-more count i h, failed repeat-at z) at left
+      rest-joined : (repeats (rowFields (registerRow registers i) fields) x && repeats (storedRows registers fields (suc i) (count - suc i)) x) ≡ y
+      unfolding storedRows
+      rest-joined = sym (repeats-more x (rowFields (registerRow registers i) fields) (storedRows registers fields (suc i) (count - suc i))) ∙ (rw (rows-more count i h) at left)
 
-      pub repeat-on : not r ≡ false → repeatsRows x registers fields (i + 1) (count - (i + 1)) ≡ y
-      unfolding repeatsRows
-      repeat-on z = rw (next-k i) (rw (rows-more count i h, passed repeat-at z) at left)
+      pub repeat-stop : not r ≡ true → false ≡ y
+      repeat-stop z = rw (failed repeat-at z) at rest-joined
+
+      pub repeat-on : not r ≡ false → repeats (storedRows registers fields (i + 1) (count - (i + 1))) x ≡ y
+      repeat-on z = rw (next-k i) (rw (passed repeat-at z) at rest-joined)
 
 pub ruleset repeat-loop = (repeat-start, repeat-end, repeat-stop, repeat-on)

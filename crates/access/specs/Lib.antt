@@ -1,3 +1,3 @@
 pub mod Stored
-pub mod Steps
+pub mod Runs
 pub mod Perform

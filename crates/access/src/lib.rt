@@ -7,13 +7,15 @@ use model::Answer;
 use model::StoredField;
 use rows::RegisterRow;
 ghost use mathlib.Core.Path.{_≡_};
-ghost use Prim.Native.Nat.{_+_, _/_, _≤_, _<_};
-ghost use lib.ListN.{length};
+ghost use mathlib.Core.List.{_++_};
+ghost use Prim.Native.Nat.{_/_, _≤_, _<_};
+ghost use lib.ListN.{length, drop};
+ghost use Rattle.bits.specs.Bits.{number};
 ghost use Rattle.rows.specs.Rows.{tables};
-ghost use Rattle.model.specs.Model.{widthOf};
+ghost use Rattle.model.specs.Model.{widthOf, stepped, gives, bitsOf, wordFrom};
 ghost use Rattle.model.specs.Repeats.{repeats};
 ghost use Rattle.access.specs.Perform.{refusalOf, answerOf, storeAfter, resetAnswer, storeReset, retryOf};
-ghost use Rattle.access.specs.Steps.{registerOf, storedField, rowFields, steppedFrom, steppedRows, joinedFrom, joinedRows, joinedWord, reachedRows, isFitting, fittingRows, AllFields, resetIn, resetRows, repeatsRows, Runs, Ready, Stocked};
+ghost use Rattle.access.specs.Runs.{registerOf, storedField, rowFields, allFields, reachedRows, isFitting, fittingRows, resetIn, resetsFrom, Sound, Runs, AllFields};
 
 // What reset answers: a refusal's number, or how many numbers it wrote.
 pub enum Restored {
@@ -50,56 +52,54 @@ fn stored_field(row: RegisterRow, field: FieldAt) -> StoredField
     }
 }
 
-// The numbers of a register's fields after an access that is answered.
-fn step_run(fields: &[u64], store: &mut [u64], access: Access, row: RegisterRow)
-    requires { ⌜ Runs (widthOf access) (now fields) row × (row .first + row .count ≤ length (now store)) ⌝ }
-    ensures { λ _. ⌜ now (store .exit) ≡ steppedFrom access (rowFields row (now (fields .entry))) (row .first) (now (store .entry)) ⌝ }
+// The numbers of a register's fields, which stand first, after an access that is answered.
+fn step_run(fields: &[u64], numbers: &mut [u64], access: Access, row: RegisterRow)
+    requires { ⌜ Runs (widthOf access) (now fields) row × (row .count ≤ length (now numbers)) ⌝ }
+    ensures { λ _. ⌜ now (numbers .exit) ≡ stepped access (rowFields row (now (fields .entry))) (now (numbers .entry)) ⌝ }
 {
     let first = row.first as usize;
     let count = row.count as usize;
     let mut k: usize = 0;
     while k < count {
-        let j = first + k;
-        let field = stored_field(row, rows::field_row(fields, j));
-        store[j] = stored::number_after(access, field, store[j]);
+        let field = stored_field(row, rows::field_row(fields, first + k));
+        numbers[k] = stored::number_after(access, field, numbers[k]);
         k += 1;
     }
 }
 
 // The store after an access that is answered.
 fn step_rows(registers: &[u64], fields: &[u64], store: &mut [u64], access: Access)
-    requires { ⌜ Ready (widthOf access) (now registers) (now fields) × Stocked (now registers) (now store) ⌝ }
-    ensures { λ _. ⌜ now (store .exit) ≡ steppedRows access (now (registers .entry)) (now (fields .entry)) 0 (length (now (registers .entry)) / 14) (now (store .entry)) ⌝ }
+    requires { ⌜ Sound (widthOf access) (now registers) (now fields) × (length (now fields) / 8 ≤ length (now store)) ⌝ }
+    ensures { λ _. ⌜ now (store .exit) ≡ stepped access (allFields (now (registers .entry)) (now (fields .entry))) (now (store .entry)) ⌝ }
 {
     let count = registers.len() / rows::REGISTER_ROW;
     let mut i: usize = 0;
     while i < count {
         let row = rows::register_row(registers, i);
-        step_run(fields, store, access, row);
+        let first = row.first as usize;
+        step_run(fields, &mut store[first..], access, row);
         i += 1;
     }
 }
 
-// A word with the bits that a register's fields give to a read.
+// The word that a register's fields, whose numbers stand first, give to a read.
 fn word_of_run(
     fields: &[u64],
-    store: &[u64],
+    numbers: &[u64],
     address: Offset,
     width: u64,
     row: RegisterRow,
-    before: u64,
 ) -> u64
-    requires { ⌜ Runs width (now fields) row × (row .first + row .count ≤ length (now store)) ⌝ }
-    ensures { λ r. ⌜ r ≡ joinedFrom address width (rowFields row (now (fields .entry))) (row .first) (now (store .entry)) before ⌝ }
+    requires { ⌜ Runs width (now fields) row × (row .count ≤ length (now numbers)) ⌝ }
+    ensures { λ r. ⌜ r ≡ number width (gives (rowFields row (now (fields .entry))) address width (bitsOf (now (numbers .entry)))) ⌝ }
 {
     let first = row.first as usize;
     let count = row.count as usize;
-    let mut word = before;
+    let mut word: u64 = 0;
     let mut k: usize = 0;
     while k < count {
-        let j = first + k;
-        let field = stored_field(row, rows::field_row(fields, j));
-        word = word | stored::word_of(address, width, field, store[j]);
+        let field = stored_field(row, rows::field_row(fields, first + k));
+        word = word | stored::word_of(address, width, field, numbers[k]);
         k += 1;
     }
     word
@@ -113,15 +113,16 @@ fn word_of_rows(
     address: Offset,
     width: u64,
 ) -> u64
-    requires { ⌜ Ready width (now registers) (now fields) × Stocked (now registers) (now store) ⌝ }
-    ensures { λ r. ⌜ r ≡ joinedRows address width (now (registers .entry)) (now (fields .entry)) 0 (length (now (registers .entry)) / 14) (now (store .entry)) 0 ⌝ }
+    requires { ⌜ Sound width (now registers) (now fields) × (length (now fields) / 8 ≤ length (now store)) ⌝ }
+    ensures { λ r. ⌜ r ≡ number width (gives (allFields (now (registers .entry)) (now (fields .entry))) address width (bitsOf (now (store .entry)))) ⌝ }
 {
     let count = registers.len() / rows::REGISTER_ROW;
     let mut word: u64 = 0;
     let mut i: usize = 0;
     while i < count {
         let row = rows::register_row(registers, i);
-        word = word_of_run(fields, store, address, width, row, word);
+        let first = row.first as usize;
+        word = word | word_of_run(fields, &store[first..], address, width, row);
         i += 1;
     }
     word
@@ -208,8 +209,8 @@ fn first_refusal(
 
 // The word of an access that is answered: 0 for a write.
 fn word_of_access(registers: &[u64], fields: &[u64], store: &[u64], access: Access) -> u64
-    requires { ⌜ Ready (widthOf access) (now registers) (now fields) × Stocked (now registers) (now store) ⌝ }
-    ensures { λ r. ⌜ r ≡ joinedWord access (now (registers .entry)) (now (fields .entry)) (now (store .entry)) ⌝ }
+    requires { ⌜ Sound (widthOf access) (now registers) (now fields) × (length (now fields) / 8 ≤ length (now store)) ⌝ }
+    ensures { λ r. ⌜ r ≡ wordFrom (allFields (now (registers .entry)) (now (fields .entry))) access (bitsOf (now (store .entry))) ⌝ }
 {
     match access {
         Access::Read { address, width } => word_of_rows(registers, fields, store, address, width),
@@ -304,7 +305,7 @@ fn reset_of(field: FieldAt) -> u64
 
 fn put_resets(fields: &[u64], store: &mut [u64])
     requires { ⌜ (length (now fields) / 8 ≤ 4096) × (length (now fields) / 8 ≤ length (now store)) ⌝ }
-    ensures { λ _. ⌜ now (store .exit) ≡ resetRows (now (fields .entry)) 0 (length (now (fields .entry)) / 8) (now (store .entry)) ⌝ }
+    ensures { λ _. ⌜ now (store .exit) ≡ resetsFrom (now (fields .entry)) 0 (length (now (fields .entry)) / 8) ++ drop (length (now (fields .entry)) / 8) (now (store .entry)) ⌝ }
 {
     let all = fields.len() / rows::FIELD_ROW;
     let mut j: usize = 0;
@@ -355,8 +356,8 @@ fn run_repeats(fields: &[u64], access: Access, row: RegisterRow) -> bool
 }
 
 fn rows_repeat(registers: &[u64], fields: &[u64], access: Access) -> bool
-    requires { ⌜ Ready (widthOf access) (now registers) (now fields) ⌝ }
-    ensures { λ r. ⌜ r ≡ repeatsRows access (now (registers .entry)) (now (fields .entry)) 0 (length (now (registers .entry)) / 14) ⌝ }
+    requires { ⌜ Sound (widthOf access) (now registers) (now fields) ⌝ }
+    ensures { λ r. ⌜ r ≡ repeats (allFields (now (registers .entry)) (now (fields .entry))) access ⌝ }
 {
     let count = registers.len() / rows::REGISTER_ROW;
     let mut i: usize = 0;

@@ -2,7 +2,7 @@
 use borrow.Author.Needs.{needs}
 use Prim.Native.Nat.{_-_}
 use mathlib.Core.Path.{_≡_}
-use Rattle.access.specs.Steps.{fittingRows}
+use Rattle.access.specs.Runs.{fittingRows}
 use Rattle.access.proofs.Loops.{field-order, field-top, fit-loop}
 use Rattle.access.proofs.are_fitting.Statement.{statement}
 use Rattle.access.proofs.are_fitting.Tie as tie

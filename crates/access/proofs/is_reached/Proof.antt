@@ -2,7 +2,7 @@
 use borrow.Author.Needs.{needs}
 use Prim.Native.Nat.{_-_}
 use mathlib.Core.Path.{_≡_}
-use Rattle.access.specs.Steps.{reachedRows}
+use Rattle.access.specs.Runs.{reachedRows}
 use Rattle.access.proofs.Loops.{reach-loop}
 use Rattle.access.proofs.is_reached.Statement.{statement}
 use Rattle.access.proofs.is_reached.Tie as tie

@@ -1,15 +1,16 @@
--- What is left of the field rows, written to the store as it is now, comes to what all of them come to at the start.
+-- The store has the resets of the field rows that are passed, then its old rest.
 use borrow.Author.Needs.{needs}
-use Prim.Native.Nat.{_-_}
+use Prim.Native.Nat.{_-_, _≤_}
 use mathlib.Core.Path.{_≡_}
-use lib.ListN.{length}
-use Rattle.access.specs.Steps.{resetRows}
-use Rattle.access.proofs.Loops.{reset-loop}
+use mathlib.Core.List.{_++_}
+use lib.ListN.{length, drop}
+use Rattle.access.specs.Runs.{resetsFrom}
+use Rattle.access.proofs.Loops.{reset-on, reset-loop}
 use Rattle.access.proofs.put_resets.Statement.{statement}
 use Rattle.access.proofs.put_resets.Tie as tie
 
 abbrev Inv-loop : tie.InvT-loop
-Inv-loop fields store₀ all j₀ store j = (length store ≡ length store₀) × (resetRows fields j (all - j) store ≡ resetRows fields 0 all store₀)
+Inv-loop fields store₀ all j₀ store j = (length store ≡ length store₀) × (j ≤ all) × (store ≡ resetsFrom fields 0 j ++ drop j store₀)
 
 abbrev μ-loop : tie.MeasureT-loop
 μ-loop fields store₀ all j₀ store j = all - j
@@ -27,6 +28,8 @@ put-resets-spec =
     (λ c. search needs)
     (λ c. search needs)
     (λ c. search needs)
-    (λ c. search (needs, reset-loop))
+    (λ c.
+    let p0 = c .before .before in
+    (search needs, search needs, reset-on _ _ _ _ (p0 .before .loop .inv .2) (search needs) (c .before .field-row .ensures) (c .reset-of .ensures)))
     (λ c. search needs)
-    (λ c. search reset-loop))
+    (λ c. search (needs, reset-loop)))

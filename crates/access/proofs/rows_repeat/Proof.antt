@@ -2,13 +2,14 @@
 use borrow.Author.Needs.{needs}
 use Prim.Native.Nat.{_-_}
 use mathlib.Core.Path.{_≡_}
-use Rattle.access.specs.Steps.{repeatsRows}
-use Rattle.access.proofs.Loops.{row-runs, repeat-loop}
+use Rattle.model.specs.Repeats.{repeats}
+use Rattle.access.specs.Runs.{storedRows}
+use Rattle.access.proofs.Loops.{row-small, row-runs, repeat-loop}
 use Rattle.access.proofs.rows_repeat.Statement.{statement}
 use Rattle.access.proofs.rows_repeat.Tie as tie
 
 abbrev Inv-loop : tie.InvT-loop
-Inv-loop registers fields x count i₀ i = repeatsRows x registers fields i (count - i) ≡ repeatsRows x registers fields 0 count
+Inv-loop registers fields x count i₀ i = repeats (storedRows registers fields i (count - i)) x ≡ repeats (storedRows registers fields 0 count) x
 
 abbrev μ-loop : tie.MeasureT-loop
 μ-loop registers fields x count i₀ i = count - i
@@ -20,7 +21,7 @@ rows-repeat-spec =
     Inv-loop
     μ-loop
     (λ c. search repeat-loop)
-    (λ c κs. search needs)
+    (λ c κs. search row-small)
     (λ c κs. search row-runs)
     (λ c. search repeat-loop)
     (λ c. search needs)

@@ -3,7 +3,7 @@ use borrow.Author.Needs.{needs}
 use Prim.Native.Nat.{_+_, _-_}
 use mathlib.Core.Path.{_≡_}
 use Rattle.model.specs.Repeats.{repeats}
-use Rattle.access.specs.Steps.{runFields, rowFields}
+use Rattle.access.specs.Runs.{runFields, rowFields}
 use Rattle.access.proofs.Loops.{field-usable, again-loop}
 use Rattle.access.proofs.run_repeats.Statement.{statement}
 use Rattle.access.proofs.run_repeats.Tie as tie

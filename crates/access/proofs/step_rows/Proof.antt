@@ -1,15 +1,16 @@
--- What is left of the registers, done on the store as it is now, comes to what all of them come to at the start.
+-- The numbers of the registers that are passed are those after the access; the others are as they were.
 use borrow.Author.Needs.{needs}
-use Prim.Native.Nat.{_-_}
+use Prim.Native.Nat.{_-_, _≤_}
 use mathlib.Core.Path.{_≡_}
 use lib.ListN.{length}
-use Rattle.access.specs.Steps.{steppedRows}
-use Rattle.access.proofs.Loops.{row-runs, row-room, steps-loop}
+use Rattle.model.specs.Model.{stepped}
+use Rattle.access.specs.Runs.{storedRows}
+use Rattle.access.proofs.Loops.{row-small, row-few, row-runs, row-below, row-left, steps-on, steps-loop}
 use Rattle.access.proofs.step_rows.Statement.{statement}
 use Rattle.access.proofs.step_rows.Tie as tie
 
 abbrev Inv-loop : tie.InvT-loop
-Inv-loop registers fields store₀ x count i₀ store i = (length store ≡ length store₀) × (steppedRows x registers fields i (count - i) store ≡ steppedRows x registers fields 0 count store₀)
+Inv-loop registers fields store₀ x count i₀ store i = (i ≤ count) × (length store ≡ length store₀) × (store ≡ stepped x (storedRows registers fields 0 i) store₀)
 
 abbrev μ-loop : tie.MeasureT-loop
 μ-loop registers fields store₀ x count i₀ store i = count - i
@@ -21,10 +22,30 @@ step-rows-spec =
     Inv-loop
     μ-loop
     (λ c. search (needs, steps-loop))
-    (λ c κs. search needs)
-    (λ c κs. search (row-runs, row-room))
+    (λ c κs. search row-small)
+    (λ c.
+    let p0 = c .before in
+    let p = p0 .before .before .before .before .before in
+    search (needs, row-few _ _ _ _ (p .pre .0) (p0 .loop-test .taken) (c .register-row .ensures)))
+    (λ c.
+    let p0 = c .before in
+    let p = p0 .before .before .before .before .before in
+    search (needs, row-below _ _ _ _ (p .pre .0) (p0 .loop-test .taken) (c .register-row .ensures) (p .args .store .now) (p0 .before .loop .store) (p .pre .1) (p0 .before .loop .inv .1)))
+    (λ c.
+    let p0 = c .before in
+    let p = p0 .before .before .before .before .before in
+    search (needs, row-below _ _ _ _ (p .pre .0) (p0 .loop-test .taken) (c .register-row .ensures) (p .args .store .now) (p0 .before .loop .store) (p .pre .1) (p0 .before .loop .inv .1)))
+    (λ c. search needs)
+    (λ c κs.
+    let p0 = c .before .before in
+    let p = p0 .before .before .before .before .before in
+    (row-runs _ _ _ _ (p .pre .0) (p0 .loop-test .taken) (c .before .register-row .ensures), row-left _ _ _ _ (p .pre .0) (p0 .loop-test .taken) (c .before .register-row .ensures) (p .args .store .now) (p0 .before .loop .store) (p .pre .1) (p0 .before .loop .inv .1)))
     (λ c. search needs)
     (λ c. search needs)
-    (λ c. search (needs, steps-loop))
+    (λ c.
+    let p1 = c .before .before in
+    let p0 = p1 .before .before .before in
+    let p = p0 .before .before .before .before .before in
+    (search needs, search needs, steps-on _ _ _ _ _ _ (p0 .before .loop .inv .2) (p .pre .0) (p0 .loop-test .taken) (p .pre .1) (p1 .before .before .register-row .ensures) (p1 .step-run .ensures)))
     (λ c. search needs)
-    (λ c. search steps-loop))
+    (λ c. search (needs, steps-loop)))

@@ -1,18 +1,19 @@
--- What is left of the run, done on the store as it is now, comes to what all of it comes to at the start.
+-- The numbers of the fields that are passed are those after the access; the others are as they were.
 use borrow.Author.Needs.{needs}
-use Prim.Native.Nat.{_+_, _-_, _≤_}
+use Prim.Native.Nat.{_-_, _≤_}
 use mathlib.Core.Path.{_≡_}
 use lib.ListN.{length}
-use Rattle.access.specs.Steps.{runFields, rowFields, steppedFrom}
+use Rattle.model.specs.Model.{stepped}
+use Rattle.access.specs.Runs.{runFields}
 use Rattle.access.proofs.Loops.{field-usable, step-on, step-loop}
 use Rattle.access.proofs.step_run.Statement.{statement}
 use Rattle.access.proofs.step_run.Tie as tie
 
 abbrev Inv-loop : tie.InvT-loop
-Inv-loop fields store₀ x row first count k₀ store k = (k ≤ count) × (length store ≡ length store₀) × (steppedFrom x (runFields row fields (first + k) (count - k)) (first + k) store ≡ steppedFrom x (rowFields row fields) (row .first) store₀)
+Inv-loop fields numbers₀ x row first count k₀ numbers k = (k ≤ count) × (length numbers ≡ length numbers₀) × (numbers ≡ stepped x (runFields row fields first k) numbers₀)
 
 abbrev μ-loop : tie.MeasureT-loop
-μ-loop fields store₀ x row first count k₀ store k = count - k
+μ-loop fields numbers₀ x row first count k₀ numbers k = count - k
 
 pub step-run-spec : {M : Type 1} → statement M
 step-run-spec =
@@ -33,6 +34,6 @@ step-run-spec =
     (λ c. search needs)
     (λ c.
     let p0 = c .before .before .before .before in
-    (search needs, search needs, step-on _ _ _ _ _ _ _ (p0 .before .loop .inv .2) (p0 .loop-test .taken) (c .before .before .before .field-row .ensures) (c .before .before .stored-field .ensures) (c .number-after .ensures)))
+    (search needs, search needs, step-on _ _ _ _ _ _ _ (p0 .before .loop .inv .2) (search needs) (c .before .before .before .field-row .ensures) (c .before .before .stored-field .ensures) (c .number-after .ensures)))
     (λ c. search needs)
-    (λ c. search step-loop))
+    (λ c. search (needs, step-loop)))

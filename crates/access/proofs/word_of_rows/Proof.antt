@@ -1,14 +1,16 @@
--- What is left of the registers, joined to the word as it is now, comes to what all of them come to at the start.
+-- The word has the bits that the fields give of the registers that are passed.
 use borrow.Author.Needs.{needs}
-use Prim.Native.Nat.{_-_}
-use mathlib.Core.Path.{_≡_}
-use Rattle.access.specs.Steps.{joinedRows}
-use Rattle.access.proofs.Loops.{row-runs, row-room, joins-loop}
+use Prim.Native.Nat.{_-_, _≤_}
+use mathlib.Core.Path.{_≡_, refl}
+use Rattle.bits.specs.Bits.{number}
+use Rattle.model.specs.Model.{gives, bitsOf}
+use Rattle.access.specs.Runs.{storedRows}
+use Rattle.access.proofs.Loops.{row-small, row-few, row-runs, row-below, row-left, joins-on, joins-loop}
 use Rattle.access.proofs.word_of_rows.Statement.{statement}
 use Rattle.access.proofs.word_of_rows.Tie as tie
 
 abbrev Inv-loop : tie.InvT-loop
-Inv-loop registers fields store address width count word₀ i₀ word i = joinedRows address width registers fields i (count - i) store word ≡ joinedRows address width registers fields 0 count store 0
+Inv-loop registers fields store address width count word₀ i₀ word i = (i ≤ count) × (word ≡ number width (gives (storedRows registers fields 0 i) address width (bitsOf store)))
 
 abbrev μ-loop : tie.MeasureT-loop
 μ-loop registers fields store address width count word₀ i₀ word i = count - i
@@ -19,10 +21,29 @@ word-of-rows-spec =
     (tie.spec
     Inv-loop
     μ-loop
-    (λ c. search joins-loop)
-    (λ c κs. search needs)
-    (λ c κs. search (row-runs, row-room))
+    (λ c. search (needs, joins-loop))
+    (λ c κs. search row-small)
+    (λ c.
+    let p0 = c .before in
+    let p = p0 .before .before .before .before .before in
+    search (needs, row-few _ _ _ _ (p .pre .0) (p0 .loop-test .taken) (c .register-row .ensures)))
+    (λ c.
+    let p0 = c .before in
+    let p = p0 .before .before .before .before .before in
+    search (needs, row-below _ _ _ _ (p .pre .0) (p0 .loop-test .taken) (c .register-row .ensures) (p .args .store .now) (p .args .store .now) (p .pre .1) refl))
+    (λ c.
+    let p0 = c .before in
+    let p = p0 .before .before .before .before .before in
+    search (needs, row-below _ _ _ _ (p .pre .0) (p0 .loop-test .taken) (c .register-row .ensures) (p .args .store .now) (p .args .store .now) (p .pre .1) refl))
+    (λ c. search needs)
+    (λ c κs.
+    let p0 = c .before .before in
+    let p = p0 .before .before .before .before .before in
+    (row-runs _ _ _ _ (p .pre .0) (p0 .loop-test .taken) (c .before .register-row .ensures), row-left _ _ _ _ (p .pre .0) (p0 .loop-test .taken) (c .before .register-row .ensures) (p .args .store .now) (p .args .store .now) (p .pre .1) refl))
     (λ c. search needs)
     (λ c. search needs)
-    (λ c. search joins-loop)
-    (λ c. search joins-loop))
+    (λ c.
+    let p0 = c .before .before .before in
+    let p = p0 .before .before .before .before .before in
+    (search needs, joins-on _ _ _ _ (p .args .store .now) _ _ (p0 .before .loop .inv .1) (p .pre .0) (p0 .loop-test .taken) (c .before .before .register-row .ensures) (c .word-of-run .ensures)))
+    (λ c. search (needs, joins-loop)))

@@ -1,17 +1,19 @@
--- What is left of the run, joined to the word as it is now, comes to what all of it comes to at the start.
+-- The word has the bits that the fields give that are passed.
 use borrow.Author.Needs.{needs}
-use Prim.Native.Nat.{_+_, _-_}
+use Prim.Native.Nat.{_-_, _≤_}
 use mathlib.Core.Path.{_≡_}
-use Rattle.access.specs.Steps.{runFields, rowFields, joinedFrom}
-use Rattle.access.proofs.Loops.{field-usable, join-loop}
+use Rattle.bits.specs.Bits.{number}
+use Rattle.model.specs.Model.{gives, bitsOf}
+use Rattle.access.specs.Runs.{runFields}
+use Rattle.access.proofs.Loops.{field-usable, join-on, join-loop}
 use Rattle.access.proofs.word_of_run.Statement.{statement}
 use Rattle.access.proofs.word_of_run.Tie as tie
 
 abbrev Inv-loop : tie.InvT-loop
-Inv-loop fields store address width row before first count word₀ k₀ word k = joinedFrom address width (runFields row fields (first + k) (count - k)) (first + k) store word ≡ joinedFrom address width (rowFields row fields) (row .first) store before
+Inv-loop fields numbers address width row first count word₀ k₀ word k = (k ≤ count) × (word ≡ number width (gives (runFields row fields first k) address width (bitsOf numbers)))
 
 abbrev μ-loop : tie.MeasureT-loop
-μ-loop fields store address width row before first count word₀ k₀ word k = count - k
+μ-loop fields numbers address width row first count word₀ k₀ word k = count - k
 
 pub word-of-run-spec : {M : Type 1} → statement M
 word-of-run-spec =
@@ -19,7 +21,7 @@ word-of-run-spec =
     (tie.spec
     Inv-loop
     μ-loop
-    (λ c. search join-loop)
+    (λ c. search (needs, join-loop))
     (λ c. search needs)
     (λ c κs. search needs)
     (λ c κs. search needs)
@@ -28,5 +30,7 @@ word-of-run-spec =
     (λ c κs. search field-usable)
     (λ c. search needs)
     (λ c. search needs)
-    (λ c. search join-loop)
-    (λ c. search join-loop))
+    (λ c.
+    let p0 = c .before .before .before .before in
+    (search needs, join-on _ _ _ _ _ (p0 .before .before .before .before .args .numbers .now) _ _ (p0 .before .loop .inv .1) (c .before .before .before .field-row .ensures) (c .before .before .stored-field .ensures) (c .word-of .ensures)))
+    (λ c. search (needs, join-loop)))
