@@ -21,7 +21,7 @@ use Rattle.model.specs.Repeats.{repeats}
 use Rattle.model.proofs.Fits.{fits-long}
 use Rattle.model.proofs.Demand.{fits-after, table-join}
 use Rattle.model.proofs.Whole.{whole-list}
-use Rattle.model.proofs.Retry.{retry-write, retry-read, same-answer}
+use Rattle.model.proofs.Retry.{repeats-each, retry-write, retry-read, same-answer}
 use Rattle.access.specs.declared.Retried.the-variants.{Safe, Unsafe}
 use Rattle.access.specs.Stored.{storedFields}
 use Rattle.access.specs.Perform.{isShort, isReached, refusalOf, answerOf, unlessRefused, storeAfter, retryRefusal, retryWith, retryOf, storeAfterAll, answersOf}
@@ -129,6 +129,7 @@ module _ (t : Tables) (e : lawful t ≡ true) where
         joined = table-join (storedFields t);
         retried-write = write-again;
         retried-read = read-again;
+        criterion = repeats-each (storedFields t);
         retrying = retry-safe;
         alike = λ a w s u f g k. answer-rows s f (Read a w) ∙ same-answer (storedFields t) a w s u k ∙ sym (answer-rows u g (Read a w));
       }

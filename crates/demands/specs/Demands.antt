@@ -16,7 +16,7 @@ use Rattle.model.specs.declared.Access.{Access}
 use Rattle.model.specs.declared.Access.the-variants.{Read, Write}
 use Rattle.model.specs.Model.{fits, refusal, bitsOf, reachesBit, fieldIn, wordIn}
 use Rattle.model.specs.Lists.{table, Stored, WholeList}
-use Rattle.model.specs.Repeats.{repeats}
+use Rattle.model.specs.Repeats.{repeatsBit, repeats}
 use Rattle.access.specs.declared.Retried.the-variants.{Safe, Unsafe}
 use Rattle.access.specs.Stored.{storedFields}
 use Rattle.access.specs.Perform.{refusalOf, answerOf, storeAfter, retryOf, storeAfterAll, answersOf}
@@ -55,7 +55,9 @@ pub record Demand3 (t : Tables) : Type 0 where
   -- "An answered read made twice gives equal words from every fitting store exactly when it reaches no readable bit that reading clears or sets"
   pub retried-read : (a : Offset) (w : ℕ) → Answered t (Read a w)
       → ((s : List ℕ) → Fitting t s → wordIn (answerOf t (storeAfter t s (Read a w)) (Read a w)) ≡ wordIn (answerOf t s (Read a w))) ↔ (repeats (storedFields t) (Read a w) ≡ true)
-  -- and that is what `retry` answers
+  -- the criterion of both, said of each stored bit
+  pub criterion : (x : Access) → (repeats (storedFields t) x ≡ true) ↔ ((f i : ℕ) → Stored (storedFields t) f i → repeatsBit x (fieldIn (storedFields t) f) i ≡ true)
+  -- and what `retry` answers
   pub retrying : (x : Access) → Answered t x → retryOf t x ≡ (if repeats (storedFields t) x then Safe else Unsafe)
   -- "Two fitting stores alike in the bits a read reaches give it the same word"
   pub alike : (a : Offset) (w : ℕ) (s u : List ℕ) → Fitting t s → Fitting t u

@@ -65,6 +65,10 @@ repeats-made (c ∷ m) x k =
     (below-made (size c) (repeatsBit x c) (λ i h. k 0 i (record { row = suc-le-suc zero-le; place = h })))
     (repeats-made m x (λ f i p. k (suc f) i (record { row = suc-le-suc (p .row); place = p .place })))
 
+-- the criterion: each stored bit lets the access be made again
+pub repeats-each : (m : List StoredField) (x : Access) → (repeats m x ≡ true) ↔ ((f i : ℕ) → Stored m f i → repeatsBit x (fieldIn m f) i ≡ true)
+repeats-each m x = (repeats-at m x, repeats-made m x)
+
 -- ---- a write made twice
 
 not-itself : (b : Bool) → b ≡ not b → ⊥
