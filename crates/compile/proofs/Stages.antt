@@ -45,7 +45,7 @@ use Rattle.walk.specs.declared.Surveyed.{Surveyed}
 use Rattle.walk.specs.declared.Surveyed.the-variants as surveyed
 use Rattle.walk.specs.Walks.{elementsOf, registersOf, surveyFault, Surveys, survey-fault, survey-fine}
 use Rattle.overlaps.specs.Charted.{Charted}
-use Rattle.title.specs.Title.{titleOf, titleIn, Titles}
+use Rattle.title.specs.Title.{titleIn}
 use Rattle.writing.specs.Entries.{bytesIn}
 use Rattle.writing.specs.Writes.{entriesIn}
 use Rattle.compile.proofs.Counts.{entries-counted, fields-among}
@@ -207,12 +207,11 @@ module _ (text t : List ℕ) (e : Extent) (row : ℕ) (g : FiledIn text t e row)
   same-entries : mapOf text (meaning text t e row) .entries ≡ entriesIn text t e row
   same-entries = subst (λ (k : ℕ). mapOf text (meaning text t e row) .entries ≡ entriesIn text t (inMode e k) row) mode-is refl
 
-  pub map-tables : {name : Name} → Titles text name
+  pub map-tables : {name : Name} → name ≡ titleIn (fileAt text)
       → tablesOf (mapOf text (meaning text t e row))
       ≡ tables (registerTable 0 (entriesIn text t e row)) (pathTable (bytesIn text name) (entriesIn text t e row)) (fieldTable (entriesIn text t e row)) (labelTable (entriesIn text t e row))
   map-tables {name} w =
-      let h : titleIn (fileAt text) ≡ name = ap titleIn (g .filed .parsed) ∙ sym (w .each (g .filed .tree) (g .filed .end) (g .filed .parsed)) in
-      ap (λ (n : Name). tablesOf (record { name = bytesIn text n; entries = mapOf text (meaning text t e row) .entries })) h
+      ap (λ (n : Name). tablesOf (record { name = bytesIn text n; entries = mapOf text (meaning text t e row) .entries })) (sym w)
       ∙ ap (λ (es : List Entry). tablesOf (record { name = bytesIn text name; entries = es })) same-entries
 
   -- what was charted

@@ -9,7 +9,7 @@ use Rattle.chars.specs.Choice.{if_then_else_}
 use Rattle.lex.specs.Token.{tokenAt}
 use Rattle.lex.specs.declared.Word.{Word}
 use Rattle.lex.specs.declared.Word.the-variants as word
-use Rattle.parts.specs.Reading.{ok, stop}
+use Rattle.parts.specs.Reading.{Parsed, ok, stop}
 use Rattle.parts.specs.Words.{kindOf, isEnd}
 use Rattle.parts.specs.Parts.{headerAt}
 use Rattle.parts.specs.Answers.{headerRead}
@@ -30,7 +30,7 @@ use Rattle.syntax.proofs.Readings.{done-ok, refused-stop}
 use Rattle.syntax.proofs.Ends.{definition-ends}
 use Rattle.syntax.proofs.Turns.{definition-more}
 use Rattle.syntax.proofs.Derive.{Files, files-end, files-more, file-files, Defined, definition-parts}
-use Rattle.title.specs.Title.{noName, nameOr, titleOf, Titles}
+use Rattle.title.specs.Title.{noName, nameOr, titleOf, titleIn, Titles}
 
 never : {X A : Type 0} {n p m : ℕ} {a : A} → stop n p ≡ ok a m → X
 never e = absurd (let z : _≡_ {A = ℕ} 0 1 = cc in omega arith)
@@ -118,3 +118,22 @@ module _ (text : List ℕ) where
 
           pub title-falls : length text - next < length text - at
           title-falls = omega (arith, ends-of (definition-ends text bodyLimit at) (done-ok (definitionAt bodyLimit text at) (sym read ∙ w) .1))
+
+-- ---- the map's name, of any text
+
+module _ (text : List ℕ) {x : Answer} {r : Name} (e : x ≡ answerOf (fileAt text)) where
+  pub name-read : {n : ℕ} → x ≡ Done n → Titles text r → r ≡ titleIn (fileAt text)
+  unfolding answerOf
+  name-read {n} f w = by (fileAt text) refl (sym e ∙ f)
+    where
+      by : (p : Parsed Body) → fileAt text ≡ p → answerOf p ≡ Done n → r ≡ titleIn p
+      by (ok b m) g h = w .each b m g
+      by (stop m p) g h = absurd (let z : _≡_ {A = ℕ} 0 1 = cc in omega arith)
+
+  pub name-missing : {n p : ℕ} → x ≡ Refused n p → r ≡ noName → r ≡ titleIn (fileAt text)
+  unfolding answerOf
+  name-missing {n} {p} f z = by (fileAt text) (sym e ∙ f)
+    where
+      by : (q : Parsed Body) → answerOf q ≡ Refused n p → r ≡ titleIn q
+      by (ok b m) h = absurd (let y : _≡_ {A = ℕ} 0 1 = cc in omega arith)
+      by (stop m q) h = z

@@ -32,6 +32,6 @@ abbrev pub titleIn : Parsed Body → Name
 titleIn (ok b n) = titleOf b
 titleIn (stop n p) = noName
 
--- what `map_name` answers, for a text that keeps the grammar
+-- what is found in a text that keeps the grammar
 pub record Titles (text : List ℕ) (r : Name) : Type 0 where
   pub each : (b : Body) (n : ℕ) → fileAt text ≡ ok b n → r ≡ titleOf b

@@ -4,7 +4,8 @@ use parts::HeaderReading;
 use parts::Name;
 use syntax::Answer;
 ghost use mathlib.Core.Path.{_≡_};
-ghost use Rattle.title.specs.Title.{nameOr, Titles};
+ghost use Rattle.syntax.specs.Grammar.{fileAt};
+ghost use Rattle.title.specs.Title.{nameOr, titleIn, Titles};
 
 const BODY_LIMIT: usize = 8;
 
@@ -23,8 +24,8 @@ fn name_or(name: DefinedName) -> Name
     }
 }
 
-// The name of the first address map among a file's definitions.
-pub fn map_name(text: &[u8]) -> Name
+// The name of the first address map among the definitions of a file that keeps the grammar.
+fn first_title(text: &[u8]) -> Name
     ensures { λ r. ⌜ Titles (now (text .entry)) r ⌝ }
 {
     let mut at = 0;
@@ -48,5 +49,15 @@ pub fn map_name(text: &[u8]) -> Name
                 at = next;
             }
         }
+    }
+}
+
+// The map's name; none where the grammar is broken.
+pub fn map_name(text: &[u8]) -> Name
+    ensures { λ r. ⌜ r ≡ titleIn (fileAt (now (text .entry))) ⌝ }
+{
+    match syntax::read_file(text) {
+        Answer::Refused(_, _) => no_name(),
+        Answer::Done(_) => first_title(text),
     }
 }
