@@ -8,13 +8,14 @@ use lib.Dec.{leb, ltb}
 use lib.ListN.{length, set, drop}
 use lib.Seq.{sets, sets-eq}
 use borrow.Author.Tests.{leb-true, leb-false, le-leb, lt-leb, ltb-true, ltb-false, not-true, not-false}
+use Rattle.lines.specs.declared.Sink.{Sink}
+use Rattle.lines.specs.Sinks.{behind, poured, withByte, filled, Pours}
 use Rattle.rows.specs.Rows.{Tables}
 use Rattle.rows.specs.Lawful.{lawful}
 use Rattle.rows.specs.Reading.{rowsIn}
-use Rattle.listing.specs.declared.Sink.{Sink}
 use Rattle.listing.specs.declared.Listed.the-variants.{Refused, Written}
 use Rattle.listing.specs.Listing.{listingOf, listed}
-use Rattle.listing.specs.Sinks.{behind, poured, withByte, filled, Pours, AllBounded}
+use Rattle.listing.specs.Bounds.{AllBounded}
 use Rattle.listing.proofs.Bounds.{lawful-bounded}
 
 abbrev sinkAt : ℕ → Sink

@@ -13,7 +13,7 @@ use Rattle.rows.specs.Lawful.{registerRow, isPlaced, isRun, isPath, isRegisterR
 use Rattle.rows.specs.declared.RegisterRow.{RegisterRow}
 use Rattle.rows.proofs.Registers.{row-fits, few-registers, few-fields}
 use Rattle.rows.proofs.Each.{row-first, register-each}
-use Rattle.listing.specs.Sinks.{Bounded, AllBounded}
+use Rattle.listing.specs.Bounds.{Bounded, AllBounded}
 
 path-depth : (registers paths : List ℕ) (i depth : ℕ) → isPath registers paths i depth ≡ true → depth ≤ 8
 unfolding isPath

@@ -1,5 +1,3 @@
-pub mod Pouring
-pub mod Words
 pub mod Lines
 pub mod Loops
 pub mod Bounds

@@ -1,41 +1,34 @@
 -- Laws of steps and lines: each is its parts, poured one after another.
 use mathlib.Core.Path.{_≡_, subst}
-use mathlib.Core.List.{List, [], _∷_, _++_}
-use Prim.Native.Nat.{ℕ, _+_, _*_}
+use mathlib.Core.List.{List, _++_}
+use Prim.Native.Nat.{ℕ, _+_, _-_, _*_}
+use borrow.Author.Tests.{eq-eqb, ne-eqb}
 use Rattle.chars.specs.Ascii.{bytes}
 use Rattle.components.specs.declared.FieldAt.{FieldAt}
-use Rattle.components.specs.declared.FieldType.{FieldType}
+use Rattle.lines.specs.declared.Sink.{Sink}
+use Rattle.lines.specs.Text.{decimal, hex, line, bitsText, valueLines}
+use Rattle.lines.specs.Sinks.{Pours}
+use Rattle.lines.proofs.Pouring.{pours-none, pours-then}
 use Rattle.rows.specs.Rows.{Step, Field, Map, Tables}
 use Rattle.rows.specs.Lawful.{registerRow}
-use Rattle.rows.specs.Reading.{nameAt, stepsFrom, pathIn, fieldsFrom, entryIn}
+use Rattle.rows.specs.Reading.{nameAt, indexFrom, stepsFrom, pathIn, fieldsFrom, entryIn}
 use Rattle.rows.specs.declared.RegisterRow.{RegisterRow}
-use Rattle.listing.specs.declared.Sink.{Sink}
-use Rattle.listing.specs.Listing.{decimal, hex, accessWord, readWord, writeWord, resetText, indexText, stepText, pathText, line, bitsText, valueLines, fieldLines, fieldsLines, headLines, entryLines, entriesLines, listingOf}
-use Rattle.listing.specs.Sinks.{Pours}
-use Rattle.listing.proofs.Pouring.{pours-then}
+use Rattle.listing.specs.Listing.{indexText, stepText, pathText, fieldLines, fieldsLines, headLines, entryLines, entriesLines, listingOf}
+
+-- an index
+module _ {room : ℕ} (code : ℕ) where
+  pub index-none : {a : List ℕ} {s : Sink} → code ≡ 0 → Pours room a a s (indexText (indexFrom code)) s
+  index-none e = rw (eq-eqb code 0 e) pours-none
+
+  pub index-some : {a b c d : List ℕ} {s r q u : Sink} → (code ≡ 0 → ⊥) → Pours room a b s (bytes "[") r → Pours room b c r (decimal (code - 1)) q → Pours room c d q (bytes "]") u
+      → Pours room a d s (indexText (indexFrom code)) u
+  index-some e p w v = rw (ne-eqb code 0 e) (pours-then p (pours-then w v))
 
 module _ {room : ℕ} {a b c : List ℕ} {s r q : Sink} where
   pub step-pours : {d : List ℕ} {u : Sink} (x : Step) → Pours room a b s (bytes ".") r → Pours room b c r (x .name) q → Pours room c d q (indexText (x .index)) u
       → Pours room a d s (stepText x) u
   unfolding stepText
   step-pours x p w v = pours-then p (pours-then w v)
-
-  pub line-pours : {d : List ℕ} {u : Sink} (key value : List ℕ) → Pours room a b s key r → Pours room b c r value q → Pours room c d q (10 ∷ []) u
-      → Pours room a d s (line key value) u
-  unfolding line
-  line-pours key value p w v = pours-then p (pours-then w v)
-
-  pub bits-pours : {d : List ℕ} {u : Sink} (f : FieldAt) → Pours room a b s (decimal (f .high .0)) r → Pours room b c r (bytes ":") q → Pours room c d q (decimal (f .low .0)) u
-      → Pours room a d s (bitsText f) u
-  unfolding bitsText
-  bits-pours f p w v = pours-then p (pours-then w v)
-
-  pub values-pour : {d e f : List ℕ} {u v w : Sink} (x : FieldType) → Pours room a b s (line (bytes "sw=") (accessWord (x .sw))) r
-      → Pours room b c r (line (bytes "hw=") (accessWord (x .hw))) q → Pours room c d q (line (bytes "onread=") (readWord (x .onread))) u
-      → Pours room d e u (line (bytes "onwrite=") (writeWord (x .onwrite))) v → Pours room e f v (line (bytes "reset=") (resetText (x .reset))) w
-      → Pours room a f s (valueLines x) w
-  unfolding valueLines
-  values-pour x p1 p2 p3 p4 p5 = pours-then p1 (pours-then p2 (pours-then p3 (pours-then p4 p5)))
 
   pub field-pours : {d : List ℕ} {u : Sink} (f : Field) {at : FieldAt} → at ≡ f .at → Pours room a b s (line (bytes "field=") (f .name)) r
       → Pours room b c r (line (bytes "bits=") (bitsText at)) q → Pours room c d q (valueLines (at .values)) u → Pours room a d s (fieldLines f) u

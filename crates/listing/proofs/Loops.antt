@@ -1,19 +1,17 @@
 -- Laws of the loops: what is left to pour at each place that they pass.
-use mathlib.Core.Path.{_≡_, refl, ap, _∙_}
+use mathlib.Core.Path.{_≡_, ap, _∙_}
 use mathlib.Core.List.{List, [], _∷_}
 use Prim.Native.Nat.{ℕ, suc, _+_, _-_, _*_, _<_, _≤_}
 use native.Mathlib.Omega.{arith}
-use lib.ListN.{length, drop, getD, drop-of-length-le}
 use borrow.Author.Tests.{eq-eqb, ne-eqb}
-use Rattle.chars.proofs.Laws.{drop-next}
 use Rattle.table.specs.Cells.{cellOf}
+use Rattle.lines.specs.declared.Sink.{Sink}
+use Rattle.lines.specs.Sinks.{Pours}
+use Rattle.lines.proofs.Pouring.{Pouring, pouring-start, pouring-on, pouring-end}
 use Rattle.rows.specs.Rows.{Tables}
 use Rattle.rows.specs.Lawful.{fieldRow}
 use Rattle.rows.specs.Reading.{nameFrom, nameAt, indexFrom, stepsFrom, fieldsFrom, entryIn, entriesFrom}
-use Rattle.listing.specs.declared.Sink.{Sink}
 use Rattle.listing.specs.Listing.{stepText, pathText, fieldLines, fieldsLines, entryLines, entriesLines}
-use Rattle.listing.specs.Sinks.{Pours}
-use Rattle.listing.proofs.Pouring.{Pouring, pouring-start, pouring-on, pouring-end}
 
 -- the numbers of a loop's start, step and end
 module _ (start k : ℕ) where
@@ -38,17 +36,6 @@ module _ (n : ℕ) where
   all-left = omega arith
 
 module _ {room : ℕ} {before : List ℕ} {start : Sink} where
-  -- a text
-  pub bytes-start : (text : List ℕ) → Pouring room before before start text start (drop 0 text)
-  bytes-start text = pouring-start refl
-
-  module _ (text : List ℕ) (i : ℕ) {x out : List ℕ} {s : Sink} (p : Pouring room before out start x s (drop i text)) where
-    pub bytes-end : length text ≤ i → Pours room before out start x s
-    bytes-end h = pouring-end (rw (drop-of-length-le text h) at p)
-
-    pub bytes-on : {o : List ℕ} {r : Sink} → i < length text → Pours room out o s (getD text i 0 ∷ []) r → Pouring room before o start x r (drop (i + 1) text)
-    bytes-on h w = pouring-on (getD text i 0 ∷ []) (drop (i + 1) text) (rw (drop-next text i h) at p) w
-
   -- a name in a cell
   module _ (t : List ℕ) (at : ℕ) where
     pub name-start : Pouring room before before start (nameAt t at) start (nameFrom t (at + 0) (32 - 0))

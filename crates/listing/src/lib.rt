@@ -1,105 +1,22 @@
 // The listing of a map: its rows as key=value lines.
-use components::FieldAt;
-use components::FieldType;
-use properties::Given;
+use lines::Sink;
 ghost use mathlib.Core.Path.{_≡_};
-ghost use mathlib.Core.List.{[], _∷_, _++_};
-ghost use Prim.Native.Nat.{_+_, _*_, _≤_, _<_};
+ghost use mathlib.Core.List.{_++_};
+ghost use Prim.Native.Nat.{_+_, _*_, _≤_};
 ghost use lib.ListN.{length};
 ghost use Rattle.chars.specs.Ascii.{bytes};
+ghost use Rattle.lines.specs.Text.{line};
+ghost use Rattle.lines.specs.Sinks.{Pours};
 ghost use Rattle.rows.specs.Rows.{tables};
 ghost use Rattle.rows.specs.Lawful.{registerRow, fieldRow};
 ghost use Rattle.rows.specs.Reading.{nameAt, indexFrom, stepsFrom, pathIn, fieldsFrom, entryIn, rowsIn};
-ghost use Rattle.listing.specs.Listing.{digitByte, digits, decimal, hex, accessWord, readWord, onOneWord, onZeroWord, writeWord, resetText, indexText, stepText, pathText, line, bitsText, valueLines, fieldLines, fieldsLines, headLines, entryLines, listingOf, listed, outputOf};
-ghost use Rattle.listing.specs.Sinks.{Pours, Bounded, AllBounded};
-
-// How many bytes were poured into an output, and whether more were than it has room for.
-pub struct Sink {
-    pub at: usize,
-    pub full: bool,
-}
+ghost use Rattle.listing.specs.Listing.{indexText, stepText, pathText, fieldLines, fieldsLines, headLines, entryLines, listingOf, listed, outputOf};
+ghost use Rattle.listing.specs.Bounds.{Bounded, AllBounded};
 
 // A refusal's number, or how many bytes were written.
 pub enum Listed {
     Refused(u8),
     Written(usize),
-}
-
-// Pours a byte: into the output as far as it goes, and nowhere past the room.
-fn put_byte(out: &mut [u8], room: usize, sink: Sink, byte: u8) -> Sink
-    ensures { λ r. ⌜ Pours room (now (out .entry)) (now (out .exit)) sink (byte ∷ []) r ⌝ }
-{
-    if sink.full {
-        return Sink {
-            at: sink.at,
-            full: true,
-        };
-    }
-    if room <= sink.at {
-        return Sink {
-            at: sink.at,
-            full: true,
-        };
-    }
-    let at = sink.at;
-    if at < out.len() {
-        out[at] = byte;
-    }
-    Sink {
-        at: at + 1,
-        full: false,
-    }
-}
-
-pub fn put_bytes(out: &mut [u8], room: usize, start: Sink, text: &[u8]) -> Sink
-    ensures { λ r. ⌜ Pours room (now (out .entry)) (now (out .exit)) start (now (text .entry)) r ⌝ }
-{
-    let mut sink = start;
-    let mut i = 0;
-    while i < text.len() {
-        sink = put_byte(out, room, sink, text[i]);
-        i += 1;
-    }
-    sink
-}
-
-fn digit_byte(digit: u64) -> u8
-    requires { ⌜ digit < 16 ⌝ }
-    ensures { λ r. ⌜ r ≡ digitByte digit ⌝ }
-{
-    if digit < 10 {
-        return b'0' + digit as u8;
-    }
-    b'a' + (digit - 10) as u8
-}
-
-// Pours the digits of a number, the highest first.
-fn put_digits(out: &mut [u8], room: usize, start: Sink, base: u64, left: u64, n: u64) -> Sink
-    requires { ⌜ (2 ≤ base) × (base ≤ 16) ⌝ }
-    ensures { λ r. ⌜ Pours room (now (out .entry)) (now (out .exit)) start (digits base left n) r ⌝ }
-{
-    let digit = digit_byte(n % base);
-    if left == 0 {
-        return put_byte(out, room, start, digit);
-    }
-    if n < base {
-        return put_byte(out, room, start, digit);
-    }
-    let sink = put_digits(out, room, start, base, left - 1, n / base);
-    put_byte(out, room, sink, digit)
-}
-
-pub fn put_decimal(out: &mut [u8], room: usize, sink: Sink, n: u64) -> Sink
-    ensures { λ r. ⌜ Pours room (now (out .entry)) (now (out .exit)) sink (decimal n) r ⌝ }
-{
-    put_digits(out, room, sink, 10, 19, n)
-}
-
-fn put_hex(out: &mut [u8], room: usize, start: Sink, n: u64) -> Sink
-    ensures { λ r. ⌜ Pours room (now (out .entry)) (now (out .exit)) start (hex n) r ⌝ }
-{
-    let sink = put_bytes(out, room, start, b"0x");
-    put_digits(out, room, sink, 16, 15, n)
 }
 
 // Pours the name of a cell of 32 bytes.
@@ -114,76 +31,10 @@ fn put_name(out: &mut [u8], room: usize, start: Sink, names: &[u8], at: usize) -
         if byte == 0 {
             return sink;
         }
-        sink = put_byte(out, room, sink, byte);
+        sink = lines::put_byte(out, room, sink, byte);
         k += 1;
     }
     sink
-}
-
-fn put_access(out: &mut [u8], room: usize, sink: Sink, code: u64) -> Sink
-    ensures { λ r. ⌜ Pours room (now (out .entry)) (now (out .exit)) sink (accessWord code) r ⌝ }
-{
-    match code {
-        0 => put_bytes(out, room, sink, b"na"),
-        1 => put_bytes(out, room, sink, b"r"),
-        2 => put_bytes(out, room, sink, b"w"),
-        _ => put_bytes(out, room, sink, b"rw"),
-    }
-}
-
-fn put_read_effect(out: &mut [u8], room: usize, sink: Sink, code: u64) -> Sink
-    ensures { λ r. ⌜ Pours room (now (out .entry)) (now (out .exit)) sink (readWord code) r ⌝ }
-{
-    match code {
-        0 => put_bytes(out, room, sink, b"none"),
-        1 => put_bytes(out, room, sink, b"rclr"),
-        _ => put_bytes(out, room, sink, b"rset"),
-    }
-}
-
-// The effects of a 1.
-fn put_on_one(out: &mut [u8], room: usize, sink: Sink, code: u64) -> Sink
-    ensures { λ r. ⌜ Pours room (now (out .entry)) (now (out .exit)) sink (onOneWord code) r ⌝ }
-{
-    match code {
-        1 => put_bytes(out, room, sink, b"woset"),
-        2 => put_bytes(out, room, sink, b"woclr"),
-        _ => put_bytes(out, room, sink, b"wot"),
-    }
-}
-
-// The effects of a 0, and those of any word.
-fn put_on_zero(out: &mut [u8], room: usize, sink: Sink, code: u64) -> Sink
-    ensures { λ r. ⌜ Pours room (now (out .entry)) (now (out .exit)) sink (onZeroWord code) r ⌝ }
-{
-    match code {
-        4 => put_bytes(out, room, sink, b"wzs"),
-        5 => put_bytes(out, room, sink, b"wzc"),
-        6 => put_bytes(out, room, sink, b"wzt"),
-        7 => put_bytes(out, room, sink, b"wclr"),
-        _ => put_bytes(out, room, sink, b"wset"),
-    }
-}
-
-fn put_write_effect(out: &mut [u8], room: usize, sink: Sink, code: u64) -> Sink
-    ensures { λ r. ⌜ Pours room (now (out .entry)) (now (out .exit)) sink (writeWord code) r ⌝ }
-{
-    if code == 0 {
-        return put_bytes(out, room, sink, b"none");
-    }
-    if code < 4 {
-        return put_on_one(out, room, sink, code);
-    }
-    put_on_zero(out, room, sink, code)
-}
-
-fn put_reset(out: &mut [u8], room: usize, sink: Sink, reset: Given) -> Sink
-    ensures { λ r. ⌜ Pours room (now (out .entry)) (now (out .exit)) sink (resetText reset) r ⌝ }
-{
-    match reset {
-        Given::Nothing => put_bytes(out, room, sink, b"none"),
-        Given::Number(n) => put_hex(out, room, sink, n),
-    }
 }
 
 // Pours an element's index from its cell: the index and one more, or 0.
@@ -193,9 +44,9 @@ fn put_index(out: &mut [u8], room: usize, start: Sink, index: u64) -> Sink
     if index == 0 {
         return start;
     }
-    let mut sink = put_bytes(out, room, start, b"[");
-    sink = put_decimal(out, room, sink, index - 1);
-    put_bytes(out, room, sink, b"]")
+    let mut sink = lines::put_bytes(out, room, start, b"[");
+    sink = lines::put_decimal(out, room, sink, index - 1);
+    lines::put_bytes(out, room, sink, b"]")
 }
 
 // Pours a step of a path.
@@ -203,7 +54,7 @@ fn put_step(out: &mut [u8], room: usize, start: Sink, paths: &[u8], name: usize,
     requires { ⌜ name ≤ 4294967296 ⌝ }
     ensures { λ r. ⌜ Pours room (now (out .entry)) (now (out .exit)) start (stepText (record { name = nameAt (now (paths .entry)) name; index = indexFrom index })) r ⌝ }
 {
-    let mut sink = put_bytes(out, room, start, b".");
+    let mut sink = lines::put_bytes(out, room, start, b".");
     sink = put_name(out, room, sink, paths, name);
     put_index(out, room, sink, index)
 }
@@ -236,12 +87,6 @@ fn put_steps(
     sink
 }
 
-fn put_line_end(out: &mut [u8], room: usize, sink: Sink) -> Sink
-    ensures { λ r. ⌜ Pours room (now (out .entry)) (now (out .exit)) sink (10 ∷ []) r ⌝ }
-{
-    put_byte(out, room, sink, b'\n')
-}
-
 fn put_name_line(
     out: &mut [u8],
     room: usize,
@@ -253,79 +98,9 @@ fn put_name_line(
     requires { ⌜ at ≤ 4294967296 ⌝ }
     ensures { λ r. ⌜ Pours room (now (out .entry)) (now (out .exit)) start (line (now (key .entry)) (nameAt (now (names .entry)) at)) r ⌝ }
 {
-    let mut sink = put_bytes(out, room, start, key);
+    let mut sink = lines::put_bytes(out, room, start, key);
     sink = put_name(out, room, sink, names, at);
-    put_line_end(out, room, sink)
-}
-
-fn put_decimal_line(out: &mut [u8], room: usize, start: Sink, key: &[u8], n: u64) -> Sink
-    ensures { λ r. ⌜ Pours room (now (out .entry)) (now (out .exit)) start (line (now (key .entry)) (decimal n)) r ⌝ }
-{
-    let mut sink = put_bytes(out, room, start, key);
-    sink = put_decimal(out, room, sink, n);
-    put_line_end(out, room, sink)
-}
-
-fn put_address_line(out: &mut [u8], room: usize, start: Sink, address: u64) -> Sink
-    ensures { λ r. ⌜ Pours room (now (out .entry)) (now (out .exit)) start (line (bytes "at=") (hex address)) r ⌝ }
-{
-    let mut sink = put_bytes(out, room, start, b"at=");
-    sink = put_hex(out, room, sink, address);
-    put_line_end(out, room, sink)
-}
-
-fn put_bits_line(out: &mut [u8], room: usize, start: Sink, field: FieldAt) -> Sink
-    ensures { λ r. ⌜ Pours room (now (out .entry)) (now (out .exit)) start (line (bytes "bits=") (bitsText field)) r ⌝ }
-{
-    let mut sink = put_bytes(out, room, start, b"bits=");
-    sink = put_decimal(out, room, sink, field.high.0);
-    sink = put_bytes(out, room, sink, b":");
-    sink = put_decimal(out, room, sink, field.low.0);
-    put_line_end(out, room, sink)
-}
-
-fn put_access_line(out: &mut [u8], room: usize, start: Sink, key: &[u8], code: u64) -> Sink
-    ensures { λ r. ⌜ Pours room (now (out .entry)) (now (out .exit)) start (line (now (key .entry)) (accessWord code)) r ⌝ }
-{
-    let mut sink = put_bytes(out, room, start, key);
-    sink = put_access(out, room, sink, code);
-    put_line_end(out, room, sink)
-}
-
-fn put_read_line(out: &mut [u8], room: usize, start: Sink, code: u64) -> Sink
-    ensures { λ r. ⌜ Pours room (now (out .entry)) (now (out .exit)) start (line (bytes "onread=") (readWord code)) r ⌝ }
-{
-    let mut sink = put_bytes(out, room, start, b"onread=");
-    sink = put_read_effect(out, room, sink, code);
-    put_line_end(out, room, sink)
-}
-
-fn put_write_line(out: &mut [u8], room: usize, start: Sink, code: u64) -> Sink
-    ensures { λ r. ⌜ Pours room (now (out .entry)) (now (out .exit)) start (line (bytes "onwrite=") (writeWord code)) r ⌝ }
-{
-    let mut sink = put_bytes(out, room, start, b"onwrite=");
-    sink = put_write_effect(out, room, sink, code);
-    put_line_end(out, room, sink)
-}
-
-fn put_reset_line(out: &mut [u8], room: usize, start: Sink, reset: Given) -> Sink
-    ensures { λ r. ⌜ Pours room (now (out .entry)) (now (out .exit)) start (line (bytes "reset=") (resetText reset)) r ⌝ }
-{
-    let mut sink = put_bytes(out, room, start, b"reset=");
-    sink = put_reset(out, room, sink, reset);
-    put_line_end(out, room, sink)
-}
-
-// The lines of a field's access, effects and reset.
-fn put_value_lines(out: &mut [u8], room: usize, start: Sink, values: FieldType) -> Sink
-    ensures { λ r. ⌜ Pours room (now (out .entry)) (now (out .exit)) start (valueLines values) r ⌝ }
-{
-    let reset = values.reset;
-    let mut sink = put_access_line(out, room, start, b"sw=", values.sw);
-    sink = put_access_line(out, room, sink, b"hw=", values.hw);
-    sink = put_read_line(out, room, sink, values.onread);
-    sink = put_write_line(out, room, sink, values.onwrite);
-    put_reset_line(out, room, sink, reset)
+    lines::put_line_end(out, room, sink)
 }
 
 fn put_field_lines(
@@ -342,8 +117,8 @@ fn put_field_lines(
     let field = rows::field_row(fields, j);
     let values = field.values;
     let mut sink = put_name_line(out, room, start, b"field=", labels, j * rows::NAME_ROW);
-    sink = put_bits_line(out, room, sink, field);
-    put_value_lines(out, room, sink, values)
+    sink = lines::put_bits_line(out, room, sink, field);
+    lines::put_value_lines(out, room, sink, values)
 }
 
 // The lines of the fields of a run.
@@ -380,12 +155,12 @@ fn put_path_line(
     requires { ⌜ (i ≤ 1024) × (depth ≤ 8) ⌝ }
     ensures { λ r. ⌜ Pours room (now (out .entry)) (now (out .exit)) start (line (bytes "reg=") (nameAt (now (paths .entry)) 0 ++ pathText (stepsFrom (now (registers .entry)) (now (paths .entry)) (i * 14 + 6) (i * 288 + 32) depth))) r ⌝ }
 {
-    let mut sink = put_bytes(out, room, start, b"reg=");
+    let mut sink = lines::put_bytes(out, room, start, b"reg=");
     sink = put_name(out, room, sink, paths, 0);
     let index = i * rows::REGISTER_ROW + 6;
     let name = i * rows::PATH_ROW + rows::NAME_ROW;
     sink = put_steps(out, room, sink, registers, paths, index, name, depth);
-    put_line_end(out, room, sink)
+    lines::put_line_end(out, room, sink)
 }
 
 // The lines of a register, without its fields.
@@ -402,9 +177,9 @@ fn put_head_lines(
 {
     let row = rows::register_row(registers, i);
     let mut sink = put_path_line(out, room, start, registers, paths, i, row.depth);
-    sink = put_address_line(out, room, sink, row.address.0);
-    sink = put_decimal_line(out, room, sink, b"width=", row.width);
-    put_decimal_line(out, room, sink, b"access=", row.access)
+    sink = lines::put_address_line(out, room, sink, row.address.0);
+    sink = lines::put_decimal_line(out, room, sink, b"width=", row.width);
+    lines::put_decimal_line(out, room, sink, b"access=", row.access)
 }
 
 fn put_entry(

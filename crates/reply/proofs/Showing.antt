@@ -13,12 +13,13 @@ use Rattle.chars.specs.Choice.{if_then_else_}
 use Rattle.rows.specs.Rows.{Tables}
 use Rattle.rows.specs.Lawful.{lawful}
 use Rattle.rows.specs.Reading.{rowsIn}
-use Rattle.listing.specs.declared.Sink.{Sink}
+use Rattle.lines.specs.declared.Sink.{Sink}
+use Rattle.lines.specs.Text.{decimal}
+use Rattle.lines.specs.Sinks.{isFull, behind, poured, withByte, filled, Pours}
+use Rattle.lines.proofs.Pouring.{poured-append, filled-append, pours-then}
 use Rattle.listing.specs.declared.Listed.{Listed}
 use Rattle.listing.specs.declared.Listed.the-variants.{Refused, Written}
-use Rattle.listing.specs.Listing.{decimal, listingOf, listed, outputOf, countOf}
-use Rattle.listing.specs.Sinks.{isFull, behind, poured, withByte, filled, Pours}
-use Rattle.listing.proofs.Pouring.{poured-append, filled-append, pours-then}
+use Rattle.listing.specs.Listing.{listingOf, listed, outputOf, countOf}
 use Rattle.listing.proofs.Answers.{poured-fits, filled-fits}
 use Rattle.compile.specs.Compiled.{compiled, over}
 use Rattle.reply.specs.Reply.{refusalLine, shown, replyTo, shownOf, Shows}

@@ -9,7 +9,8 @@ use Rattle.chars.specs.Choice.{if_then_else_}
 use Rattle.properties.specs.Judged.{Judged, fault, fine}
 use Rattle.rows.specs.Rows.{Map, Tables}
 use Rattle.rows.specs.Reading.{rowsIn}
-use Rattle.listing.specs.Listing.{decimal, line, listingOf, listed}
+use Rattle.lines.specs.Text.{decimal}
+use Rattle.listing.specs.Listing.{listingOf, listed}
 use Rattle.listing.specs.declared.Listed.{Listed}
 use Rattle.listing.specs.declared.Listed.the-variants as listed
 use Rattle.compile.specs.Compiled.{compiled, over}

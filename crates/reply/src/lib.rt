@@ -1,7 +1,7 @@
 // What the program answers to a text: its listing, or one line with its refusal.
 use compile::Compiled;
+use lines::Sink;
 use listing::Listed;
-use listing::Sink;
 ghost use mathlib.Core.Path.{_≡_};
 ghost use lib.ListN.{length};
 ghost use Rattle.rows.specs.Rows.{tables};
@@ -25,11 +25,11 @@ fn write_refusal(out: &mut [u8], number: u64, at: u64) -> usize
 {
     let room = out.len();
     let start = Sink { at: 0, full: false };
-    let mut sink = listing::put_bytes(out, room, start, b"refused=");
-    sink = listing::put_decimal(out, room, sink, number);
-    sink = listing::put_bytes(out, room, sink, b" at=");
-    sink = listing::put_decimal(out, room, sink, at);
-    sink = listing::put_bytes(out, room, sink, b"\n");
+    let mut sink = lines::put_bytes(out, room, start, b"refused=");
+    sink = lines::put_decimal(out, room, sink, number);
+    sink = lines::put_bytes(out, room, sink, b" at=");
+    sink = lines::put_decimal(out, room, sink, at);
+    sink = lines::put_bytes(out, room, sink, b"\n");
     sink.at
 }
 

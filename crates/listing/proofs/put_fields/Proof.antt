@@ -3,9 +3,9 @@ use borrow.Author.Needs.{needs}
 use Prim.Native.Nat.{_+_, _-_, _≤_}
 use mathlib.Core.Path.{_≡_}
 use lib.ListN.{length}
+use Rattle.lines.proofs.Pouring.{Pouring}
 use Rattle.rows.specs.Reading.{fieldsFrom}
 use Rattle.listing.specs.Listing.{fieldsLines}
-use Rattle.listing.proofs.Pouring.{Pouring}
 use Rattle.listing.proofs.Loops.{fields-start, fields-on, fields-end}
 use Rattle.listing.proofs.put_fields.Statement.{statement}
 use Rattle.listing.proofs.put_fields.Tie as tie

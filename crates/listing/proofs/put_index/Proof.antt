@@ -1,5 +1,5 @@
 use borrow.Author.Needs.{needs}
-use Rattle.listing.proofs.Words.{index-none, index-some}
+use Rattle.listing.proofs.Lines.{index-none, index-some}
 use Rattle.listing.proofs.put_index.Statement.{statement}
 use Rattle.listing.proofs.put_index.Tie as tie
 

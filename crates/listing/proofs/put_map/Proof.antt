@@ -3,10 +3,10 @@ use borrow.Author.Needs.{needs}
 use Prim.Native.Nat.{_-_, _≤_}
 use mathlib.Core.Path.{_≡_}
 use lib.ListN.{length}
+use Rattle.lines.proofs.Pouring.{Pouring}
 use Rattle.rows.specs.Rows.{tables}
 use Rattle.rows.specs.Reading.{nameAt, entriesFrom}
 use Rattle.listing.specs.Listing.{entriesLines}
-use Rattle.listing.proofs.Pouring.{Pouring}
 use Rattle.listing.proofs.Lines.{map-pours}
 use Rattle.listing.proofs.Loops.{entries-start, entries-on, entries-end}
 use Rattle.listing.proofs.put_map.Statement.{statement}

@@ -3,8 +3,8 @@ use borrow.Author.Needs.{needs}
 use Prim.Native.Nat.{_+_, _-_, _≤_}
 use mathlib.Core.Path.{_≡_}
 use lib.ListN.{length}
+use Rattle.lines.proofs.Pouring.{Pouring}
 use Rattle.rows.specs.Reading.{nameFrom, nameAt}
-use Rattle.listing.proofs.Pouring.{Pouring}
 use Rattle.listing.proofs.Loops.{name-start, name-on, name-stop, name-end}
 use Rattle.listing.proofs.put_name.Statement.{statement}
 use Rattle.listing.proofs.put_name.Tie as tie

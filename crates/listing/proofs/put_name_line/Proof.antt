@@ -1,5 +1,5 @@
 use borrow.Author.Needs.{needs}
-use Rattle.listing.proofs.Lines.{line-pours}
+use Rattle.lines.proofs.Lines.{line-pours}
 use Rattle.listing.proofs.put_name_line.Statement.{statement}
 use Rattle.listing.proofs.put_name_line.Tie as tie
 

@@ -1,6 +1,6 @@
 use borrow.Author.Needs.{needs}
-use Rattle.listing.proofs.Lines.{line-pours}
-use Rattle.listing.proofs.Pouring.{pours-then}
+use Rattle.lines.proofs.Lines.{line-pours}
+use Rattle.lines.proofs.Pouring.{pours-then}
 use Rattle.listing.proofs.put_path_line.Statement.{statement}
 use Rattle.listing.proofs.put_path_line.Tie as tie
 

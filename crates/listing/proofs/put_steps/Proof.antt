@@ -3,9 +3,9 @@ use borrow.Author.Needs.{needs}
 use Prim.Native.Nat.{_+_, _-_, _*_, _≤_}
 use mathlib.Core.Path.{_≡_}
 use lib.ListN.{length}
+use Rattle.lines.proofs.Pouring.{Pouring}
 use Rattle.rows.specs.Reading.{stepsFrom}
 use Rattle.listing.specs.Listing.{pathText}
-use Rattle.listing.proofs.Pouring.{Pouring}
 use Rattle.listing.proofs.Loops.{steps-start, steps-on, steps-end}
 use Rattle.listing.proofs.put_steps.Statement.{statement}
 use Rattle.listing.proofs.put_steps.Tie as tie

@@ -1,0 +1,4 @@
+pub mod Pouring
+pub mod Words
+pub mod Lines
+pub mod Loops
