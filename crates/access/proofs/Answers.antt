@@ -25,7 +25,7 @@ use Rattle.access.specs.Stored.{storedFields}
 use Rattle.access.specs.declared.Restored.the-variants as restored
 use Rattle.access.specs.declared.Retried.the-variants as retried
 use Rattle.access.specs.Perform.{isShort, isReached, refusalOf, answerOf, storeAfter, resetRefusal, resetAnswer, storeReset, retryRefusal, retryOf}
-use Rattle.access.specs.Runs.{Sound, AllFields, allFields, reachedRows, fittingRows, resetsFrom}
+use Rattle.access.specs.Runs.{LawfulRows, AllFields, allFields, reachedRows, fittingRows, resetsFrom}
 use Rattle.access.proofs.Facts.{rows-few, fields-few, all-fields}
 use Rattle.access.proofs.Fields.{stored-rows, stored-count, stored-reached}
 use Rattle.access.proofs.Stores.{stored-fitting, stored-reset}
@@ -39,8 +39,8 @@ module _ (x : Access) {a : Bool} (e : a ≡ wellFormed x) (y : not a ≡ false) 
   pub least-width : {w : ℕ} → w ≡ widthOf x → 8 ≤ w
   least-width q = rw q (width-bounds (widthOf x) (formed-width x (passed e y)) .0)
 
-  pub formed-sound : (registers paths fields labels : List ℕ) {b : Bool} → b ≡ lawful (tables registers paths fields labels) → not b ≡ false → Sound (widthOf x) registers fields
-  formed-sound registers paths fields labels f z = record { paths = paths; labels = labels; rows = passed f z; width = formed-width x (passed e y) }
+  pub formed-rows : (registers paths fields labels : List ℕ) {b : Bool} → b ≡ lawful (tables registers paths fields labels) → not b ≡ false → LawfulRows (widthOf x) registers fields
+  formed-rows registers paths fields labels f z = record { paths = paths; labels = labels; rows = passed f z; width = formed-width x (passed e y) }
 
 module _ (registers paths fields labels : List ℕ) {b : Bool} (f : b ≡ lawful (tables registers paths fields labels)) (z : not b ≡ false) where
   pub few-rows : length registers / 14 ≤ 1024
@@ -102,8 +102,8 @@ module _ (t : Tables) (s : List ℕ) (x : Access) {a : Bool} (e : a ≡ wellForm
 
 -- the word of a read
 module _ {x : Access} {a : Offset} {w : ℕ} (registers fields : List ℕ) (e : x ≡ Read a w) where
-  pub read-sound : Sound (widthOf x) registers fields → Sound w registers fields
-  read-sound r = rw e at r
+  pub read-rows : LawfulRows (widthOf x) registers fields → LawfulRows w registers fields
+  read-rows r = rw e at r
 
   pub read-word : (s : List ℕ) {n : ℕ} → n ≡ number w (gives (allFields registers fields) a w (bitsOf s)) → n ≡ wordFrom (allFields registers fields) x (bitsOf s)
   read-word s f = rw e f
@@ -143,8 +143,8 @@ module _ (t : Tables) (s : List ℕ) (x : Access) where
     has-room : length (t .fields) / 8 ≤ length s
     has-room = omega (arith, stored-count t (is-granted .rows), ltb-false (length s) (length (storedFields t)) (is-granted .room))
 
-    is-sound : Sound (widthOf x) (t .registers) (t .fields)
-    is-sound = record { paths = t .paths; labels = t .labels; rows = is-granted .rows; width = formed-width x (is-granted .form) }
+    has-rows : LawfulRows (widthOf x) (t .registers) (t .fields)
+    has-rows = record { paths = t .paths; labels = t .labels; rows = is-granted .rows; width = formed-width x (is-granted .form) }
 
     pub answered-word : {w : ℕ} → w ≡ wordFrom (allFields (t .registers) (t .fields)) x (bitsOf s) → answer.Word w ≡ answerOf t s x
     unfolding answerOf
@@ -156,8 +156,8 @@ module _ (t : Tables) (s : List ℕ) (x : Access) where
 
 -- what the functions of an access ask
 pub answered-asks : (registers paths fields labels s : List ℕ) (x : Access) {n : ℕ} → n ≡ refusalOf (tables registers paths fields labels) s x → n ≡ 0
-    → Sound (widthOf x) registers fields × (length fields / 8 ≤ length s)
-answered-asks registers paths fields labels s x e z = (is-sound (tables registers paths fields labels) s x e z, has-room (tables registers paths fields labels) s x e z)
+    → LawfulRows (widthOf x) registers fields × (length fields / 8 ≤ length s)
+answered-asks registers paths fields labels s x e z = (has-rows (tables registers paths fields labels) s x e z, has-room (tables registers paths fields labels) s x e z)
 
 -- ---- a reset
 

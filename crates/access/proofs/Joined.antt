@@ -1,20 +1,20 @@
 -- Fields one behind the other: what an access does to their numbers, what a read is given, and whether an access may be made again.
-use mathlib.Core.Path.{_≡_, refl, sym, ap, ap₂, _∙_, fun-ext}
+use mathlib.Core.Path.{_≡_, refl, sym, ap, _∙_, fun-ext}
 use mathlib.Core.Bool.{Bool, true, false, _&&_, _||_}
 use mathlib.Core.List.{List, [], _∷_, _++_, append-nil, append-assoc}
-use Prim.Native.Nat.{ℕ, zero, suc, _+_, _*_, _^_, _<_, _≤_}
+use Prim.Native.Nat.{ℕ, zero, suc, _+_, _*_, _^_, _<_}
 use native.Mathlib.Omega.{arith}
 use lib.Bits.{bitOr}
 use lib.ListN.{length, getD, set, take, drop}
 use Rattle.chars.proofs.Laws.{or-false}
 use Rattle.components.specs.declared.Offset.{Offset}
-use Rattle.bits.specs.Bits.{bit, number}
+use Rattle.bits.specs.Bits.{number}
 use Rattle.bits.proofs.BitLaws.{number-ext, or-number}
 use Rattle.rows.specs.declared.RegisterRow.{RegisterRow}
 use Rattle.rows.specs.Lawful.{registerRow, fieldRow}
 use Rattle.model.specs.declared.StoredField.{StoredField}
 use Rattle.model.specs.declared.Access.{Access}
-use Rattle.model.specs.Model.{size, numberAfter, stepped, fieldGives, gives, bitsOf}
+use Rattle.model.specs.Model.{size, numberAfter, stepped, fieldGives, gives}
 use Rattle.model.specs.Repeats.{allBelow, repeatsBit, repeats}
 use Rattle.access.specs.Runs.{storedField, runFields, rowFields, storedRows}
 

@@ -9,21 +9,20 @@ use lib.Dec.{leb}
 use lib.ListN.{length, getD, set, take, drop, length-drop}
 use lib.Seq.{drop-cons, drop-drop, drop-length, set-at, append-snoc, getD-drop, take-all}
 use borrow.Rule.Slice.PartMut.{putMid, midOf}
-use Rattle.settings.specs.Settings.{isWidth}
 use Rattle.components.specs.declared.FieldAt.{FieldAt}
 use Rattle.components.specs.declared.Offset.{Offset}
 use Rattle.components.specs.declared.Register.{Register}
 use Rattle.bits.specs.Bits.{bit, number}
 use Rattle.rows.specs.Rows.{Tables, tables}
 use Rattle.rows.specs.declared.RegisterRow.{RegisterRow}
-use Rattle.rows.specs.Lawful.{registerRow, fieldRow, lawful}
+use Rattle.rows.specs.Lawful.{registerRow, fieldRow}
 use Rattle.model.specs.declared.StoredField.{StoredField}
 use Rattle.model.specs.declared.Access.{Access}
 use Rattle.model.specs.Model.{size, numberAfter, stepped, fieldGives, gives, bitsOf, reachesRegister}
 use Rattle.model.specs.Repeats.{repeats, allBelow, repeatsBit}
 use Rattle.stored.specs.Ranges.{Usable}
 use Rattle.stored.proofs.Tests.{failed, passed, fits-yes}
-use Rattle.access.specs.Runs.{Sound, Runs, AllFields, registerOf, storedField, runFields, rowFields, storedRows, allFields, reachedRows, isFitting, fittingRows, resetIn, resetsFrom}
+use Rattle.access.specs.Runs.{LawfulRows, Runs, AllFields, registerOf, storedField, runFields, rowFields, storedRows, reachedRows, isFitting, fittingRows, resetIn, resetsFrom}
 use Rattle.access.proofs.Facts as facts
 use Rattle.access.proofs.Joined.{rows-last, length-stepped, stepped-field, stepped-more, word-more, word-field, no-word, repeats-more}
 use Rattle.access.proofs.Fields.{stored-first}
@@ -64,6 +63,10 @@ put-tail n s u h =
     ap (λ (l : List ℕ). take n s ++ (u ++ l)) (drop-drop (length s - n) n s ∙ ap (λ (k : ℕ). drop k s) z ∙ drop-length s)
     ∙ ap (λ (l : List ℕ). take n s ++ l) (append-nil u)
 
+-- the bits of such a part of a store
+bits-behind : (n : ℕ) (s : List ℕ) → bitsOf (midOf n (length s - n) s) ≡ (λ (f : ℕ). bitsOf s (n + f))
+bits-behind n s = ap bitsOf (mid-tail n s) ∙ fun-ext (λ f. ap bit (getD-drop n s f 0))
+
 -- ---- one register, and one field
 
 -- the field at a field row, of which calls answer the parts
@@ -75,10 +78,10 @@ pub field-usable : (w : ℕ) (row : RegisterRow) (fields : List ℕ) (k : ℕ) {
     → c ≡ storedField row f → Usable w c
 field-usable w row fields k r h p q = rw (field-at row fields (row .first + k) p q) (r .usable k h)
 
-abbrev rowsOf : {w : ℕ} {registers fields : List ℕ} → Sound w registers fields → Tables
+abbrev rowsOf : {w : ℕ} {registers fields : List ℕ} → LawfulRows w registers fields → Tables
 rowsOf {registers = registers} {fields = fields} r = tables registers (r .paths) fields (r .labels)
 
-module _ (w : ℕ) (registers fields : List ℕ) (i : ℕ) (r : Sound w registers fields) (h : i < length registers / 14) where
+module _ (w : ℕ) (registers fields : List ℕ) (i : ℕ) (r : LawfulRows w registers fields) (h : i < length registers / 14) where
   pub row-small : i ≤ 1048576
   row-small = omega (arith, facts.rows-few (rowsOf r) (r .rows))
 
@@ -106,10 +109,6 @@ module _ (fields : List ℕ) (j : ℕ) {f : FieldAt} (r : AllFields fields) (h :
 
   pub field-top : f .high .0 < 64
   field-top = rw p (r .top j h)
-
--- the bits of such a part
-bits-behind : (n : ℕ) (s : List ℕ) → bitsOf (midOf n (length s - n) s) ≡ (λ (f : ℕ). bitsOf s (n + f))
-bits-behind n s = ap bitsOf (mid-tail n s) ∙ fun-ext (λ f. ap bit (getD-drop n s f 0))
 
 -- a register's fields behind those of the registers before it
 row-behind : (registers fields : List ℕ) (i : ℕ) {row : RegisterRow} → row ≡ registerRow registers i
@@ -146,7 +145,7 @@ module _ (x : Access) (registers fields : List ℕ) where
     pub steps-end : (count : ℕ) → i ≤ count → count ≤ i → s ≡ stepped x (storedRows registers fields 0 count) s₀
     steps-end count l h = let z : i ≡ count = omega arith in rw (← z) done
 
-    pub steps-on : {w : ℕ} {row : RegisterRow} {u : List ℕ} → Sound w registers fields → i < length registers / 14 → length fields / 8 ≤ length s₀ → row ≡ registerRow registers i
+    pub steps-on : {w : ℕ} {row : RegisterRow} {u : List ℕ} → LawfulRows w registers fields → i < length registers / 14 → length fields / 8 ≤ length s₀ → row ≡ registerRow registers i
         → u ≡ stepped x (rowFields row fields) (midOf (row .first) (length s - row .first) s)
         → putMid (row .first) (length s - row .first) s u ≡ stepped x (storedRows registers fields 0 (i + 1)) s₀
     steps-on {row = row} {u = u} r h l p e =
@@ -187,7 +186,7 @@ module _ (a : Offset) (w : ℕ) (registers fields : List ℕ) (s : List ℕ) whe
     pub joins-end : (count : ℕ) → i ≤ count → count ≤ i → word ≡ number w (gives (storedRows registers fields 0 count) a w (bitsOf s))
     joins-end count l h = let z : i ≡ count = omega arith in rw (← z) done
 
-    pub joins-on : {row : RegisterRow} {n : ℕ} → Sound w registers fields → i < length registers / 14 → row ≡ registerRow registers i
+    pub joins-on : {row : RegisterRow} {n : ℕ} → LawfulRows w registers fields → i < length registers / 14 → row ≡ registerRow registers i
         → n ≡ number w (gives (rowFields row fields) a w (bitsOf (midOf (row .first) (length s - row .first) s)))
         → bitOr word n ≡ number w (gives (storedRows registers fields 0 (i + 1)) a w (bitsOf s))
     joins-on {row = row} r h p e =

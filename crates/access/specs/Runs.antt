@@ -65,8 +65,8 @@ unfoldable pub resetsFrom : List ℕ → ℕ → ℕ → List ℕ
 resetsFrom fields j zero = []
 resetsFrom fields j (suc n) = resetIn (fieldRow fields j) ∷ resetsFrom fields (suc j) n
 
--- what the functions over all registers ask: rows that are lawful with some paths and labels, and an access width
-pub record Sound (w : ℕ) (registers fields : List ℕ) : Type 0 where
+-- what the functions over all registers ask: register rows and field rows that are lawful with some paths and labels, and an access width
+pub record LawfulRows (w : ℕ) (registers fields : List ℕ) : Type 0 where
   pub paths : List ℕ
   pub labels : List ℕ
   pub rows : lawful (tables registers paths fields labels) ≡ true

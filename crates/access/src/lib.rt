@@ -15,7 +15,7 @@ ghost use Rattle.rows.specs.Rows.{tables};
 ghost use Rattle.model.specs.Model.{widthOf, stepped, gives, bitsOf, wordFrom};
 ghost use Rattle.model.specs.Repeats.{repeats};
 ghost use Rattle.access.specs.Perform.{refusalOf, answerOf, storeAfter, resetAnswer, storeReset, retryOf};
-ghost use Rattle.access.specs.Runs.{registerOf, storedField, rowFields, allFields, reachedRows, isFitting, fittingRows, resetIn, resetsFrom, Sound, Runs, AllFields};
+ghost use Rattle.access.specs.Runs.{registerOf, storedField, rowFields, allFields, reachedRows, isFitting, fittingRows, resetIn, resetsFrom, LawfulRows, Runs, AllFields};
 
 // What reset answers: a refusal's number, or how many numbers it wrote.
 pub enum Restored {
@@ -69,7 +69,7 @@ fn step_run(fields: &[u64], numbers: &mut [u64], access: Access, row: RegisterRo
 
 // The store after an access that is answered.
 fn step_rows(registers: &[u64], fields: &[u64], store: &mut [u64], access: Access)
-    requires { ⌜ Sound (widthOf access) (now registers) (now fields) × (length (now fields) / 8 ≤ length (now store)) ⌝ }
+    requires { ⌜ LawfulRows (widthOf access) (now registers) (now fields) × (length (now fields) / 8 ≤ length (now store)) ⌝ }
     ensures { λ _. ⌜ now (store .exit) ≡ stepped access (allFields (now (registers .entry)) (now (fields .entry))) (now (store .entry)) ⌝ }
 {
     let count = registers.len() / rows::REGISTER_ROW;
@@ -113,7 +113,7 @@ fn word_of_rows(
     address: Offset,
     width: u64,
 ) -> u64
-    requires { ⌜ Sound width (now registers) (now fields) × (length (now fields) / 8 ≤ length (now store)) ⌝ }
+    requires { ⌜ LawfulRows width (now registers) (now fields) × (length (now fields) / 8 ≤ length (now store)) ⌝ }
     ensures { λ r. ⌜ r ≡ number width (gives (allFields (now (registers .entry)) (now (fields .entry))) address width (bitsOf (now (store .entry)))) ⌝ }
 {
     let count = registers.len() / rows::REGISTER_ROW;
@@ -209,7 +209,7 @@ fn first_refusal(
 
 // The word of an access that is answered: 0 for a write.
 fn word_of_access(registers: &[u64], fields: &[u64], store: &[u64], access: Access) -> u64
-    requires { ⌜ Sound (widthOf access) (now registers) (now fields) × (length (now fields) / 8 ≤ length (now store)) ⌝ }
+    requires { ⌜ LawfulRows (widthOf access) (now registers) (now fields) × (length (now fields) / 8 ≤ length (now store)) ⌝ }
     ensures { λ r. ⌜ r ≡ wordFrom (allFields (now (registers .entry)) (now (fields .entry))) access (bitsOf (now (store .entry))) ⌝ }
 {
     match access {
@@ -356,7 +356,7 @@ fn run_repeats(fields: &[u64], access: Access, row: RegisterRow) -> bool
 }
 
 fn rows_repeat(registers: &[u64], fields: &[u64], access: Access) -> bool
-    requires { ⌜ Sound (widthOf access) (now registers) (now fields) ⌝ }
+    requires { ⌜ LawfulRows (widthOf access) (now registers) (now fields) ⌝ }
     ensures { λ r. ⌜ r ≡ repeats (allFields (now (registers .entry)) (now (fields .entry))) access ⌝ }
 {
     let count = registers.len() / rows::REGISTER_ROW;

@@ -1,11 +1,10 @@
 -- The compiler on one page: the refusals 1 to 22 in document 01's order, and the rows of an accepted text.
-use mathlib.Core.Bool.{Bool, true, false, _||_}
+use mathlib.Core.Bool.{Bool, _||_}
 use mathlib.Core.List.{List, _++_}
 use Prim.Native.Nat.{ℕ}
 use lib.Dec.{ltb}
 use lib.ListN.{length, drop}
 use Rattle.chars.specs.Choice.{if_then_else_}
-use Rattle.lex.specs.declared.Place.{Place}
 use Rattle.syntax.specs.Grammar.{fileAt}
 use Rattle.properties.specs.Judged.{Judged, fault, fine, onward}
 use Rattle.rules.specs.Judge.{Meaning, found}

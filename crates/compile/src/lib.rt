@@ -7,7 +7,7 @@ use shapes::Extent;
 use suffixes::Fault;
 use walk::Surveyed;
 ghost use mathlib.Core.Path.{_≡_};
-ghost use Prim.Native.Nat.{_+_, _*_, _<_, _≤_};
+ghost use Prim.Native.Nat.{_*_, _<_, _≤_};
 ghost use lib.ListN.{length};
 ghost use Rattle.layout.specs.Layout.{modeOf};
 ghost use Rattle.rows.specs.Rows.{tables};

@@ -1,5 +1,5 @@
 -- Fields: their bits in a register, and the tests of the rules 12 to 17.
-use mathlib.Core.Bool.{Bool, true, false, _||_, _&&_, not}
+use mathlib.Core.Bool.{Bool, false, _||_, _&&_, not}
 use Prim.Native.Nat.{ℕ, suc, _+_, _-_, _/_, _^_}
 use lib.Dec.{eqb, leb, ltb}
 use Rattle.parts.specs.declared.Array.{Array}

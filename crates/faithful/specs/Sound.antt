@@ -1,6 +1,6 @@
 -- A map whose rows are lawful, said of the map itself: names, ranges, and the rules 12 to 15, 18 and 20.
 use mathlib.Core.Path.{_≡_}
-use mathlib.Core.Bool.{Bool, true, false}
+use mathlib.Core.Bool.{true}
 use mathlib.Core.List.{List, [], _∷_}
 use Prim.Native.Nat.{ℕ, _+_, _/_, _%_, _<_, _≤_}
 use lib.ListN.{length}

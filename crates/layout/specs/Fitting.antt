@@ -5,7 +5,7 @@ use Rattle.parts.specs.declared.Kind.{Kind}
 use Rattle.parts.specs.declared.Kind.the-variants as kind
 use Rattle.parts.specs.declared.Instance.{Instance}
 use Rattle.settings.specs.Settings.{isField, isAlignment}
-use mathlib.Core.Bool.{Bool, true, false}
+use mathlib.Core.Bool.{true, false}
 use Rattle.suffixes.specs.Suffixes.{instanceFault}
 use Rattle.suffixes.specs.declared.Fault.the-variants.{Sound}
 use Rattle.properties.specs.Assigned.{orElse}

@@ -15,7 +15,7 @@ use Rattle.settings.specs.declared.Mode.the-variants as mode
 use Rattle.suffixes.specs.Suffixes.{isArray}
 use Rattle.properties.specs.Assigned.{orElse}
 use Rattle.properties.specs.declared.Given.{Given}
-use Rattle.properties.specs.declared.Given.the-variants.{Nothing, Number}
+use Rattle.properties.specs.declared.Given.the-variants.{Nothing}
 use Rattle.components.specs.Components.{startOf}
 use Rattle.components.specs.declared.Component.{Component}
 use Rattle.components.specs.declared.Component.the-variants as component

@@ -1,5 +1,4 @@
 -- Blanks (document 01, "Words"): space, tab, CR, LF and both comment kinds.
-use mathlib.Core.Bool.{Bool, true, false}
 use mathlib.Core.List.{List, [], _∷_}
 use Prim.Native.Nat.{ℕ, _+_}
 use Prim.Native.Char.{code}

@@ -1,5 +1,4 @@
 -- Tokens: document 01's words, with their places.
-use mathlib.Core.Bool.{Bool, true, false}
 use mathlib.Core.List.{List, [], _∷_}
 use Prim.Native.Nat.{ℕ, _+_, _-_}
 use lib.Dec.{ltb, eqb}
@@ -21,7 +20,6 @@ use Rattle.lex.specs.Blank.{nextFrom}
 use Rattle.lex.specs.Quote.{closing}
 use Rattle.lex.specs.declared.Next.{Next}
 use Rattle.lex.specs.declared.Next.the-variants.{At, Unclosed}
-use Rattle.lex.specs.declared.Cause.{Cause}
 use Rattle.lex.specs.declared.Cause.the-variants as cause
 use Rattle.lex.specs.declared.Word.{Word}
 use Rattle.lex.specs.declared.Word.the-variants as word

@@ -1,5 +1,4 @@
 -- The first refusal of a text by 1, 2 and 4 (document 01, "Refusal numbers").
-use mathlib.Core.Bool.{Bool, true, false}
 use mathlib.Core.List.{List}
 use Prim.Native.Nat.{ℕ, zero, suc, _+_}
 use lib.Dec.{ltb}

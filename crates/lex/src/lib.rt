@@ -12,7 +12,7 @@ ghost use lib.ListN.{length, take, drop};
 ghost use Rattle.vocabulary.specs.Vocabulary.{markOf};
 ghost use Rattle.lex.specs.Blank.{nextFrom};
 ghost use Rattle.lex.specs.Quote.{closes, closingFrom};
-ghost use Rattle.lex.specs.Token.{keywordWord, nameWord, numberWord, nameToken, numberToken, stringToken, longer, markWord, markToken, tokenFrom, tokenAt};
+ghost use Rattle.lex.specs.Token.{keywordWord, nameWord, numberWord, nameToken, numberToken, stringToken, longer, markToken, tokenFrom, tokenAt};
 ghost use Rattle.lex.specs.Words.{causeNumber, refused, judged, firstBad, wordsVerdict};
 
 const TEXT_LIMIT: usize = 65536;

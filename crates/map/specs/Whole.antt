@@ -2,7 +2,7 @@
 use mathlib.Core.Bool.{Bool, true, false, _||_, _&&_, not}
 use mathlib.Core.List.{List, [], _∷_, _++_}
 use Prim.Native.Nat.{ℕ, suc, _+_, _%_}
-use lib.Dec.{eqb, leb, ltb}
+use lib.Dec.{eqb, ltb}
 use lib.ListN.{length}
 use Rattle.chars.specs.Choice.{if_then_else_}
 use Rattle.settings.specs.Codes.{accessCode}
@@ -13,7 +13,7 @@ use Rattle.suffixes.specs.Suffixes.{firstOf}
 use Rattle.components.specs.declared.Component.{Component}
 use Rattle.components.specs.declared.Component.the-variants as component
 use Rattle.components.specs.declared.FieldAt.{FieldAt}
-use Rattle.table.specs.Definitions.{Child, Definition, definitionOf}
+use Rattle.table.specs.Definitions.{Definition, definitionOf}
 use Rattle.closing.specs.Registers.{fieldsOf}
 use Rattle.rules.specs.Judge.{Meaning}
 use Rattle.rows.specs.Limits.{nestLimit, registerLimit, fieldLimit, addressLimit}

@@ -1,5 +1,5 @@
 -- Numbers (document 01, "Words"): decimal, `0x` or `0X` hex, or width `'b` `'d` `'h` digits.
-use mathlib.Core.Bool.{Bool, true, false, _||_, _&&_}
+use mathlib.Core.Bool.{Bool, false, _||_, _&&_}
 use mathlib.Core.List.{List, [], _∷_}
 use Prim.Native.Nat.{ℕ, _+_, _-_, _*_, _^_}
 use Prim.Native.Char.{code}

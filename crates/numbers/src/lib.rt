@@ -3,8 +3,8 @@ use chars::Class;
 use chars::Radix;
 ghost use mathlib.Core.Path.{_≡_};
 ghost use Prim.Native.Nat.{_≤_, _<_};
-ghost use lib.ListN.{drop, take};
-ghost use Rattle.numbers.specs.Number.{digitValue, nextValue, valueFrom, value, fitting, baseOf, radixOf, plainDigits, spacedDigits, widthOf, sizedNumber, sizedAt, hexPrefixed, hexNumber, numberOf};
+ghost use lib.ListN.{drop};
+ghost use Rattle.numbers.specs.Number.{digitValue, nextValue, value, fitting, baseOf, radixOf, plainDigits, spacedDigits, widthOf, sizedNumber, sizedAt, hexPrefixed, hexNumber, numberOf};
 
 // A number's value; malformed; or too wide for 64 bits or for its width.
 pub enum Numeral {

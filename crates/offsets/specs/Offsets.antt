@@ -1,6 +1,5 @@
 -- Sizes and offsets are whole numbers (document 01, "Addresses": "no wrap may show"). The code keeps each cut at a cap above every
 -- address; that is enough, since each operation on cut numbers, cut again, is the operation on the true ones, cut.
-use mathlib.Core.Bool.{Bool, true, false}
 use Prim.Native.Nat.{ℕ, zero, suc, _+_, _-_, _*_, _/_, _%_, _^_}
 use lib.Dec.{eqb, leb, ltb}
 use Rattle.chars.specs.Choice.{if_then_else_}

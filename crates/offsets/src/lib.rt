@@ -1,7 +1,7 @@
 // Arithmetic on sizes and offsets, cut at a cap above every address, so that nothing wraps.
 ghost use mathlib.Core.Path.{_≡_};
 ghost use mathlib.Core.Bool.{true};
-ghost use Prim.Native.Nat.{_+_, _*_, _≤_, _^_};
+ghost use Prim.Native.Nat.{_+_, _*_, _≤_};
 ghost use Rattle.settings.specs.Settings.{isAlignment};
 ghost use Rattle.offsets.specs.Offsets.{cap, cut, larger, raised, commonMultiple, powerAbove};
 

@@ -1,5 +1,4 @@
 -- What each reader's answer means as a reading: a stop is refusal 3.
-use Prim.Native.Nat.{ℕ}
 use Rattle.parts.specs.Reading.{Parsed, ok, stop}
 use Rattle.parts.specs.declared.Name.{Name}
 use Rattle.parts.specs.declared.NameReading.{NameReading}

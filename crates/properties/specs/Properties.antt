@@ -1,5 +1,5 @@
 -- Rules 7, 8 and 9: a property statement in a body.
-use mathlib.Core.Bool.{Bool, true, false, not}
+use mathlib.Core.Bool.{not}
 use mathlib.Core.List.{List}
 use Prim.Native.Nat.{ℕ}
 use Rattle.vocabulary.specs.Vocabulary.{propertyOf}

@@ -7,8 +7,7 @@ use lib.ListN.{length, take}
 use Rattle.chars.specs.Ascii.{bytes}
 use Rattle.chars.specs.Choice.{if_then_else_}
 use Rattle.properties.specs.Judged.{Judged, fault, fine}
-use Rattle.rows.specs.Rows.{Map, Tables}
-use Rattle.rows.specs.Reading.{rowsIn}
+use Rattle.rows.specs.Rows.{Map}
 use Rattle.lines.specs.Text.{decimal}
 use Rattle.listing.specs.Listing.{listingOf, listed}
 use Rattle.listing.specs.declared.Listed.{Listed}

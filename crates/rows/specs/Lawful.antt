@@ -1,7 +1,7 @@
 -- Lawful rows (document 01, "Reading and writing"): "there is a register, every path is the map's name, then names with indices in
 -- range, each row meets the ranges and rules 12 to 15, 18 and 20, and the registers' runs of field rows, none empty, follow each other
 -- and use all".
-use mathlib.Core.Bool.{Bool, true, false, _||_, _&&_, not}
+use mathlib.Core.Bool.{Bool, true, _||_, _&&_, not}
 use mathlib.Core.List.{List}
 use Prim.Native.Nat.{ℕ, zero, suc, _+_, _*_, _/_, _%_}
 use lib.Dec.{eqb, leb, ltb}

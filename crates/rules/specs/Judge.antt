@@ -1,5 +1,5 @@
 -- The rules 5 to 17, and 18 for definitions, as one walk over the syntax tree in text order: the first fault, or what the text means.
-use mathlib.Core.Bool.{Bool, true, false, _||_, _&&_, not}
+use mathlib.Core.Bool.{Bool, false, _||_, not}
 use mathlib.Core.List.{List, [], _∷_, _++_, map}
 use Prim.Native.Nat.{ℕ, _+_, _-_}
 use lib.Dec.{eqb, leb, ltb}

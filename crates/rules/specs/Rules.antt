@@ -1,6 +1,5 @@
 -- The rules stage of a text: the first refusal by words, sentences and rules, or what the text means; and what the cells say of it.
 use mathlib.Core.List.{List, [], _∷_}
-use mathlib.Core.Bool.{Bool, true, false}
 use Prim.Native.Nat.{ℕ, zero, suc, _+_, _≤_}
 use lib.Dec.{ltb}
 use Rattle.chars.specs.Choice.{if_then_else_}

@@ -1,18 +1,17 @@
 -- What the code knows at a place of a text, and what it stands for.
 use mathlib.Core.Path.{_≡_}
-use mathlib.Core.Bool.{Bool, true, false, not, _||_}
+use mathlib.Core.Bool.{not, _||_}
 use mathlib.Core.List.{List, [], _∷_}
 use Prim.Native.Nat.{ℕ, suc, _+_, _*_, _<_, _≤_}
 use lib.Dec.{leb}
 use lib.ListN.{length}
-use Rattle.parts.specs.Reading.{Parsed, ok}
+use Rattle.parts.specs.Reading.{ok}
 use Rattle.parts.specs.Parts.{instanceAt, isNamed}
 use Rattle.parts.specs.declared.Name.{Name}
 use Rattle.parts.specs.declared.Kind.{Kind}
 use Rattle.parts.specs.declared.Header.{Header}
 use Rattle.parts.specs.declared.Instance.{Instance}
 use Rattle.parts.specs.declared.DefinedName.{DefinedName}
-use Rattle.parts.specs.declared.DefinedName.the-variants.{Unnamed, Named}
 use Rattle.suffixes.specs.Suffixes.{instanceFault}
 use Rattle.suffixes.specs.declared.Fault.{Fault}
 use Rattle.suffixes.specs.declared.Fault.the-variants.{Sound, Broken}
@@ -21,15 +20,15 @@ use Rattle.syntax.specs.Grammar.{instancesAt, tailAt, fileAt}
 use Rattle.names.specs.Names.{isAmong}
 use Rattle.properties.specs.Judged.{Judged, fault, fine, unless, onward}
 use Rattle.properties.specs.declared.Given.{Given}
-use Rattle.properties.specs.declared.Given.the-variants.{Nothing, Number}
+use Rattle.properties.specs.declared.Given.the-variants.{Number}
 use Rattle.components.specs.Components.{kindOf}
 use Rattle.table.specs.Cells.{cellOf, filedAt, openAt, size, nameIn, belowIn}
 use Rattle.table.specs.Definitions.{Child, Definition, definitionOf, namesOf, Entry}
 use Rattle.table.specs.Relation.{Block, Holds, Chain}
 use Rattle.rules.specs.Limits.{definitionLimit}
-use Rattle.rules.specs.Judge.{State, Known, Made, typeTwice, namePlace, found, lastOf, withHeld, closed, Meaning, judge, judgeUse, judgeInstances, judgeElem, judgeBody}
+use Rattle.rules.specs.Judge.{State, Made, typeTwice, namePlace, found, lastOf, withHeld, closed, Meaning, judge, judgeUse, judgeInstances, judgeElem, judgeBody}
 use Rattle.places.specs.Places.{mayDefine, mayHold, isBadMap}
-use Rattle.places.specs.Walks.{nameOr, rootScope}
+use Rattle.places.specs.Walks.{nameOr}
 use Rattle.places.specs.declared.Ruling.{Ruling}
 use Rattle.places.specs.declared.Ruling.the-variants as ruling
 use Rattle.places.specs.declared.Walk.{Walk}

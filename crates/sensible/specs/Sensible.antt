@@ -1,6 +1,6 @@
 -- What holds of the definitions of every text that keeps the rules: values in their ranges, types declared before, suffixes that are sound.
 use mathlib.Core.Path.{_≡_}
-use mathlib.Core.Bool.{Bool, true, false}
+use mathlib.Core.Bool.{true}
 use mathlib.Core.List.{List, [], _∷_, _++_}
 use Prim.Native.Nat.{ℕ, _<_, _≤_}
 use lib.ListN.{length}

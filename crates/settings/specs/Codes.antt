@@ -10,10 +10,9 @@ use Rattle.settings.specs.declared.WriteEffect.{WriteEffect}
 use Rattle.settings.specs.declared.WriteEffect.the-variants as onwrite
 use Rattle.settings.specs.declared.Mode.{Mode}
 use Rattle.settings.specs.declared.Mode.the-variants as mode
-use Rattle.settings.specs.declared.WordList.{WordList}
 use Rattle.settings.specs.declared.WordList.the-variants as list
 use Rattle.settings.specs.declared.Term.{Term}
-use Rattle.settings.specs.declared.Term.the-variants.{Word, Number, Text, Other}
+use Rattle.settings.specs.declared.Term.the-variants.{Word, Other}
 
 -- `sw`, `hw`: `na r w rw`
 abbrev pub accessCode : Access → ℕ

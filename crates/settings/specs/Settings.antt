@@ -1,5 +1,5 @@
 -- Property statements (document 01, "Names, properties, fields"): where a property may stand (7), which property it sets, and to what (9).
-use mathlib.Core.Bool.{Bool, true, false, _||_, _&&_, not}
+use mathlib.Core.Bool.{Bool, true, false, _||_, not}
 use Prim.Native.Nat.{ℕ, zero, suc, _^_}
 use lib.Dec.{eqb}
 use Rattle.chars.specs.Choice.{if_then_else_}

@@ -1,7 +1,7 @@
 -- The shapes of a text's definitions in cells: two a row, the size and the access width in bytes, cut at the cap.
 use mathlib.Core.Path.{_≡_}
 use mathlib.Core.List.{List, []}
-use Prim.Native.Nat.{ℕ, _+_, _*_, _<_, _≤_}
+use Prim.Native.Nat.{ℕ, _+_, _*_, _<_}
 use lib.ListN.{length}
 use Rattle.properties.specs.declared.Given.{Given}
 use Rattle.components.specs.declared.Component.{Component}

@@ -1,14 +1,14 @@
 -- The grammar of document 01, "Sentences", as a reader of the text at a cursor: a piece of the syntax tree and the cursor past it, or
 -- the refusal. A reader that repeats takes a number of turns; one more than the text has bytes is enough, since each turn moves the
 -- cursor on. (What a `let` binds is computed only where it is used.)
-use mathlib.Core.Bool.{Bool, true, false, _&&_}
+use mathlib.Core.Bool.{Bool, _&&_}
 use mathlib.Core.List.{List, [], _∷_}
 use Prim.Native.Nat.{ℕ, zero, suc}
 use lib.ListN.{length}
 use Rattle.chars.specs.Choice.{if_then_else_}
 use Rattle.lex.specs.Token.{tokenAt}
 use Rattle.vocabulary.specs.declared.Mark.the-variants as mark
-use Rattle.parts.specs.Reading.{Parsed, ok, stop, andThen, mapped, unexpected}
+use Rattle.parts.specs.Reading.{Parsed, ok, stop, andThen, mapped}
 use Rattle.parts.specs.Words.{isKind, isMark, isEnd}
 use Rattle.parts.specs.Parts.{nameAt, listedAt, propertyAt, headerAt, isNamed, startsInstances}
 use Rattle.parts.specs.declared.Instance.{Instance}

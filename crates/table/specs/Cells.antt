@@ -2,9 +2,8 @@
 -- braces; then the instances of the definitions that are closed, one cell each; then those of the bodies that are open.
 -- A row: 0 the kind, 1 to 6 the component's values, 7 and 8 the first of its instances and how many, 9 and 10 its name, 11 the type
 -- declared before it.
-use mathlib.Core.Bool.{Bool, true, false}
 use mathlib.Core.List.{List, [], _∷_}
-use Prim.Native.Nat.{ℕ, zero, suc, _+_, _-_, _*_, _/_, _%_}
+use Prim.Native.Nat.{ℕ, zero, suc, _+_, _*_, _/_, _%_}
 use lib.Dec.{eqb, ltb}
 use lib.ListN.{getD, set}
 use Rattle.chars.specs.Choice.{if_then_else_}
@@ -13,8 +12,6 @@ use Rattle.parts.specs.declared.Kind.the-variants as kind
 use Rattle.parts.specs.declared.Name.{Name}
 use Rattle.properties.specs.declared.Given.{Given}
 use Rattle.properties.specs.declared.Given.the-variants.{Nothing, Number}
-use Rattle.components.specs.declared.FieldType.{FieldType}
-use Rattle.components.specs.declared.Register.{Register}
 use Rattle.components.specs.declared.Component.{Component}
 use Rattle.components.specs.declared.Component.the-variants as component
 use Rattle.table.specs.declared.Values.{Values}

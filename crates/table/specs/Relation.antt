@@ -1,19 +1,18 @@
 -- What the cells say of a text: its definitions, its instances and its types.
 use mathlib.Core.Path.{_≡_}
-use mathlib.Core.Bool.{Bool, true, false}
-use mathlib.Core.List.{List, [], _∷_, map}
-use Prim.Native.Nat.{ℕ, suc, _+_, _*_, _<_, _≤_}
+use mathlib.Core.Bool.{Bool, false}
+use mathlib.Core.List.{List, [], _∷_}
+use Prim.Native.Nat.{ℕ, suc, _+_, _<_, _≤_}
 use lib.Dec.{eqb}
 use lib.ListN.{length, getD}
 use Rattle.chars.specs.Choice.{if_then_else_}
-use Rattle.parts.specs.Reading.{Parsed, ok}
+use Rattle.parts.specs.Reading.{ok}
 use Rattle.parts.specs.Parts.{instanceAt}
 use Rattle.parts.specs.declared.Name.{Name}
 use Rattle.parts.specs.declared.Instance.{Instance}
 use Rattle.names.specs.Names.{sameName, isAmong, fingerprint}
 use Rattle.properties.specs.declared.Given.{Given}
-use Rattle.properties.specs.declared.Given.the-variants.{Nothing, Number}
-use Rattle.components.specs.declared.Component.{Component}
+use Rattle.properties.specs.declared.Given.the-variants.{Number}
 use Rattle.table.specs.Cells.{cellOf, filedAt, componentIn, firstIn, countIn, nameIn, belowIn, placeIn, rowIn, printIn}
 use Rattle.table.specs.Definitions.{Child, Definition, Entry, lookup, namesOf, noDefinition}
 

@@ -8,9 +8,9 @@ use parts::Kind;
 use parts::Name;
 use properties::Given;
 ghost use mathlib.Core.Path.{_≡_};
-ghost use Prim.Native.Nat.{ℕ, _+_, _*_, _≤_, _<_};
-ghost use lib.ListN.{length, set};
-ghost use Rattle.table.specs.Cells.{cellOf, rank, givenFrom, flagOf, numberOf, componentFrom, valuesIn, valuesOf, componentIn, firstIn, countIn, nameIn, belowIn, valueCells, otherCells, written, entryOf, placeIn, rowIn, printIn, moved};
+ghost use Prim.Native.Nat.{_+_, _*_, _≤_, _<_};
+ghost use lib.ListN.{set};
+ghost use Rattle.table.specs.Cells.{cellOf, rank, givenFrom, flagOf, numberOf, componentFrom, valuesIn, valuesOf, componentIn, nameIn, belowIn, valueCells, otherCells, written, entryOf, placeIn, rowIn, printIn, moved};
 ghost use Rattle.names.specs.Names.{fingerprint};
 ghost use Rattle.table.specs.Relation.{Finds, NamedAt, EntryNamed, agreeing, Agrees, Among};
 

@@ -1,5 +1,5 @@
 -- One run over a map's elements, as the code makes it: 18 ends it, the first 19 and the first 20 are kept, and registers are logged.
-use mathlib.Core.Bool.{Bool, true, false, _||_}
+use mathlib.Core.Bool.{Bool, _||_}
 use mathlib.Core.List.{List, [], _∷_, _++_}
 use Prim.Native.Nat.{ℕ, suc, _+_, _*_}
 use lib.Dec.{ltb}
@@ -7,7 +7,7 @@ use lib.ListN.{length}
 use Rattle.chars.specs.Choice.{if_then_else_}
 use Rattle.parts.specs.declared.Name.{Name}
 use Rattle.suffixes.specs.Suffixes.{firstOf}
-use Rattle.properties.specs.Judged.{Judged, fault, fine, unless}
+use Rattle.properties.specs.Judged.{Judged, fine, unless}
 use Rattle.table.specs.Cells.{written}
 use Rattle.table.specs.Definitions.{Definition, definitionOf}
 use Rattle.offsets.specs.Offsets.{cut}

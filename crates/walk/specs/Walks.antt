@@ -1,19 +1,17 @@
 -- What the functions of the walk are asked for, and what they answer.
 use mathlib.Core.Path.{_≡_}
-use mathlib.Core.Bool.{Bool, true, false, _&&_, _||_, not}
+use mathlib.Core.Bool.{false, _&&_, _||_, not}
 use mathlib.Core.List.{List, [], _∷_, _++_}
 use Prim.Native.Nat.{ℕ, suc, _+_, _*_, _%_, _<_, _≤_}
 use lib.Dec.{eqb, ltb}
 use lib.ListN.{length, getD}
 use Rattle.chars.specs.Choice.{if_then_else_}
-use Rattle.parts.specs.declared.Name.{Name}
 use Rattle.parts.specs.declared.Instance.{Instance}
 use Rattle.suffixes.specs.Suffixes.{isArray, firstOf}
 use Rattle.suffixes.specs.declared.Fault.{Fault}
 use Rattle.suffixes.specs.declared.Fault.the-variants.{Sound, Broken}
 use Rattle.properties.specs.declared.Given.{Given}
-use Rattle.properties.specs.Judged.{Judged, fault, fine}
-use Rattle.components.specs.declared.Offset.{Offset}
+use Rattle.properties.specs.Judged.{fault, fine}
 use Rattle.components.specs.declared.Component.{Component}
 use Rattle.components.specs.declared.Component.the-variants as component
 use Rattle.components.specs.declared.Register.{Register}
@@ -22,7 +20,7 @@ use Rattle.table.specs.Definitions.{Child, Definition, definitionOf}
 use Rattle.offsets.specs.Offsets.{cap, cut}
 use Rattle.layout.specs.declared.Shape.{Shape}
 use Rattle.layout.specs.declared.Laid.{Laid}
-use Rattle.layout.specs.Layout.{shapeAt, elements, laidFrom, cutOffset}
+use Rattle.layout.specs.Layout.{shapeAt, elements, laidFrom}
 use Rattle.shapes.specs.declared.Extent.{Extent}
 use Rattle.shapes.specs.Ready.{known, Ready}
 use Rattle.shapes.specs.Shapes.{ShapesIn, allShapes}

@@ -1,5 +1,5 @@
 use borrow.Author.Needs.{needs}
-use Rattle.access.proofs.Answers.{least-width, few-rows, formed-sound, retry-form, retry-rows, retry-reach, retry-safe, retry-unsafe}
+use Rattle.access.proofs.Answers.{least-width, few-rows, formed-rows, retry-form, retry-rows, retry-reach, retry-safe, retry-unsafe}
 use Rattle.access.proofs.retry.Statement.{statement}
 use Rattle.access.proofs.retry.Tie as tie
 
@@ -18,6 +18,6 @@ retry-spec =
     (λ c κs.
     let p1 = c .before .before .before .before in
     let p0 = p1 .before .before in
-    formed-sound (p0 .before .before .before .before .before .before .args .access) (p0 .before .is-well-formed .ensures) (p0 .if1 .left) _ _ _ _ (p1 .before .are-lawful .ensures) (p1 .if2 .left))
+    formed-rows (p0 .before .before .before .before .before .before .args .access) (p0 .before .is-well-formed .ensures) (p0 .if1 .left) _ _ _ _ (p1 .before .are-lawful .ensures) (p1 .if2 .left))
     (λ c. search retry-safe)
     (λ c. search retry-unsafe))

@@ -1,5 +1,5 @@
 use borrow.Author.Needs.{needs}
-use Rattle.access.proofs.Answers.{read-sound, read-word}
+use Rattle.access.proofs.Answers.{read-rows, read-word}
 use Rattle.access.proofs.word_of_access.Statement.{statement}
 use Rattle.access.proofs.word_of_access.Tie as tie
 
@@ -8,7 +8,7 @@ word-of-access-spec =
     tie.close
     (tie.spec
     (λ c. search needs)
-    (λ c κs. search read-sound)
+    (λ c κs. search read-rows)
     (λ c. search needs)
     (λ c. search read-word)
     (λ c. search needs))
