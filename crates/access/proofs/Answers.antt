@@ -25,7 +25,7 @@ use Rattle.access.specs.Stored.{storedFields}
 use Rattle.access.specs.declared.Restored.the-variants as restored
 use Rattle.access.specs.declared.Retried.the-variants as retried
 use Rattle.access.specs.Perform.{isShort, isReached, refusalOf, answerOf, storeAfter, resetRefusal, resetAnswer, storeReset, retryRefusal, retryOf}
-use Rattle.access.specs.Runs.{LawfulRows, AllFields, allFields, reachedRows, fittingRows, resetsFrom}
+use Rattle.access.specs.Runs.{LawfulRows, RangedFields, allFields, reachedRows, fittingRows, resetsFrom}
 use Rattle.access.proofs.Facts.{rows-few, fields-few, all-fields}
 use Rattle.access.proofs.Fields.{stored-rows, stored-count, stored-reached}
 use Rattle.access.proofs.Stores.{stored-fitting, stored-reset}
@@ -49,7 +49,7 @@ module _ (registers paths fields labels : List ℕ) {b : Bool} (f : b ≡ lawful
   pub few-fields : length fields / 8 ≤ 4096
   few-fields = fields-few (tables registers paths fields labels) (passed f z)
 
-  pub sound-fields : AllFields fields
+  pub sound-fields : RangedFields fields
   sound-fields = all-fields (tables registers paths fields labels) (passed f z)
 
 module _ (t : Tables) (s : List ℕ) (q : lawful t ≡ true) where

@@ -17,7 +17,7 @@ use Rattle.rows.specs.declared.RegisterRow.{RegisterRow}
 use Rattle.rows.specs.Lawful.{registerRow, fieldRow, isPlaced, isRun, isPath, isRanged, isSoundField, isFieldRow, areFieldRows, isRegisterRow, areRows, areWhole, lawful}
 use Rattle.rows.proofs.Registers.{placed-most, run-fits, few-registers, few-fields, width-bounds}
 use Rattle.rows.proofs.Each.{register-each, field-each}
-use Rattle.access.specs.Runs.{Runs, AllFields}
+use Rattle.access.specs.Runs.{Runs, RangedFields}
 
 run-some : (all first : ℕ) (r : RegisterRow) → isRun all first r ≡ true → 0 < r .count
 unfolding isRun
@@ -107,7 +107,7 @@ module _ (t : Tables) (e : lawful t ≡ true) where
       rows-within t (length (t .fields) / 8) 0 0 (length (t .registers) / 14)
       (and-right (areWhole (length (t .registers)) (length (t .paths)) (length (t .fields)) (length (t .labels))) _ e) j (omega arith) h
 
-  pub all-fields : AllFields (t .fields)
+  pub all-fields : RangedFields (t .fields)
   all-fields = record { few = fields-few; order = λ j h. all-within j h .order; top = λ j h. all-within j h .top }
 
   -- what an access of a width asks of a register

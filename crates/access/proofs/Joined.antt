@@ -1,6 +1,6 @@
 -- Fields one behind the other: what an access does to their numbers, what a read is given, and whether an access may be made again.
 use mathlib.Core.Path.{_≡_, refl, sym, ap, _∙_, fun-ext}
-use mathlib.Core.Bool.{Bool, true, false, _&&_, _||_}
+use mathlib.Core.Bool.{Bool, false, _&&_, _||_, and-assoc, or-assoc}
 use mathlib.Core.List.{List, [], _∷_, _++_, append-nil, append-assoc}
 use Prim.Native.Nat.{ℕ, zero, suc, _+_, _*_, _^_, _<_}
 use native.Mathlib.Omega.{arith}
@@ -85,16 +85,12 @@ stepped-more x (c ∷ l) m (v ∷ s) = ap (λ (o : List ℕ). numberAfter x c v 
 
 -- ---- the word of a read
 
-or-assoc : (x y z : Bool) → (x || (y || z)) ≡ ((x || y) || z)
-or-assoc true y z = refl
-or-assoc false y z = refl
-
 gives-more : (l m : List StoredField) (a : Offset) (w : ℕ) (b : ℕ → ℕ → Bool) (j : ℕ) → gives (l ++ m) a w b j ≡ (gives l a w b j || gives m a w (λ f. b (length l + f)) j)
 unfolding gives
 gives-more [] m a w b j = ap (λ (d : ℕ → ℕ → Bool). gives m a w d j) (fun-ext (λ f. let z : f ≡ 0 + f = omega arith in ap b z))
 gives-more (c ∷ l) m a w b j =
     ap (λ (y : Bool). fieldGives a w c (b 0) j || y) (gives-more l m a w (λ f. b (suc f)) j)
-    ∙ or-assoc (fieldGives a w c (b 0) j) (gives l a w (λ f. b (suc f)) j) (gives m a w (λ f. b (suc (length l + f))) j)
+    ∙ sym (or-assoc (fieldGives a w c (b 0) j) (gives l a w (λ f. b (suc f)) j) (gives m a w (λ f. b (suc (length l + f))) j))
     ∙ ap (λ (d : ℕ → ℕ → Bool). (fieldGives a w c (b 0) j || gives l a w (λ f. b (suc f)) j) || gives m a w d j)
     (fun-ext (λ f. let z : suc (length l + f) ≡ suc (length l) + f = omega arith in ap b z))
 
@@ -128,12 +124,8 @@ no-word (suc n) = ap (λ (x : ℕ). x + 0 * 2 ^ n) (no-word n) ∙ (omega arith)
 
 -- ---- whether an access may be made again
 
-and-assoc : (a b c : Bool) → (a && (b && c)) ≡ ((a && b) && c)
-and-assoc true b c = refl
-and-assoc false b c = refl
-
 pub repeats-more : (x : Access) (l m : List StoredField) → repeats (l ++ m) x ≡ repeats l x && repeats m x
 unfolding repeats
 repeats-more x [] m = refl
 repeats-more x (c ∷ l) m =
-    ap (λ (b : Bool). allBelow (size c) (repeatsBit x c) && b) (repeats-more x l m) ∙ and-assoc (allBelow (size c) (repeatsBit x c)) (repeats l x) (repeats m x)
+    ap (λ (b : Bool). allBelow (size c) (repeatsBit x c) && b) (repeats-more x l m) ∙ sym (and-assoc (allBelow (size c) (repeatsBit x c)) (repeats l x) (repeats m x))

@@ -22,7 +22,7 @@ use Rattle.model.specs.Model.{size, numberAfter, stepped, fieldGives, gives, bi
 use Rattle.model.specs.Repeats.{repeats, allBelow, repeatsBit}
 use Rattle.stored.specs.Ranges.{Usable}
 use Rattle.stored.proofs.Tests.{failed, passed, fits-yes}
-use Rattle.access.specs.Runs.{LawfulRows, Runs, AllFields, registerOf, storedField, runFields, rowFields, storedRows, reachedRows, isFitting, fittingRows, resetIn, resetsFrom}
+use Rattle.access.specs.Runs.{LawfulRows, Runs, RangedFields, registerOf, storedField, runFields, rowFields, storedRows, reachedRows, isFitting, fittingRows, resetIn, resetsFrom}
 use Rattle.access.proofs.Facts as facts
 use Rattle.access.proofs.Joined.{rows-last, length-stepped, stepped-field, stepped-more, word-more, word-field, no-word, repeats-more}
 use Rattle.access.proofs.Fields.{stored-first}
@@ -103,7 +103,7 @@ module _ (w : ℕ) (registers fields : List ℕ) (i : ℕ) (r : LawfulRows w reg
       pub row-left : row .count ≤ length (midOf (row .first) (length s - row .first) s)
       row-left = omega (arith, row-room, ap length (mid-tail (row .first) s), length-drop (row .first) s)
 
-module _ (fields : List ℕ) (j : ℕ) {f : FieldAt} (r : AllFields fields) (h : j < length fields / 8) (p : f ≡ fieldRow fields j) where
+module _ (fields : List ℕ) (j : ℕ) {f : FieldAt} (r : RangedFields fields) (h : j < length fields / 8) (p : f ≡ fieldRow fields j) where
   pub field-order : f .low .0 ≤ f .high .0
   field-order = rw p (r .order j h)
 

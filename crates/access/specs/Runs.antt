@@ -78,7 +78,7 @@ pub record Runs (w : ℕ) (fields : List ℕ) (r : RegisterRow) : Type 0 where
   pub usable : (k : ℕ) → k < r .count → Usable w (storedField r (fieldRow fields (r .first + k)))
 
 -- what the loop over all field rows asks
-pub record AllFields (fields : List ℕ) : Type 0 where
+pub record RangedFields (fields : List ℕ) : Type 0 where
   pub few : length fields / 8 ≤ 4096
   pub order : (j : ℕ) → j < length fields / 8 → fieldRow fields j .low .0 ≤ fieldRow fields j .high .0
   pub top : (j : ℕ) → j < length fields / 8 → fieldRow fields j .high .0 < 64

@@ -15,7 +15,7 @@ ghost use Rattle.rows.specs.Rows.{tables};
 ghost use Rattle.model.specs.Model.{widthOf, stepped, gives, bitsOf, wordFrom};
 ghost use Rattle.model.specs.Repeats.{repeats};
 ghost use Rattle.access.specs.Perform.{refusalOf, answerOf, storeAfter, resetAnswer, storeReset, retryOf};
-ghost use Rattle.access.specs.Runs.{registerOf, storedField, rowFields, allFields, reachedRows, isFitting, fittingRows, resetIn, resetsFrom, LawfulRows, Runs, AllFields};
+ghost use Rattle.access.specs.Runs.{registerOf, storedField, rowFields, allFields, reachedRows, isFitting, fittingRows, resetIn, resetsFrom, LawfulRows, Runs, RangedFields};
 
 // What reset answers: a refusal's number, or how many numbers it wrote.
 pub enum Restored {
@@ -159,7 +159,7 @@ fn is_fitting(number: u64, field: FieldAt) -> bool
 
 // Whether the store fits: the number of each field row has no more bits than the field.
 fn are_fitting(fields: &[u64], store: &[u64]) -> bool
-    requires { ⌜ AllFields (now fields) × (length (now fields) / 8 ≤ length (now store)) ⌝ }
+    requires { ⌜ RangedFields (now fields) × (length (now fields) / 8 ≤ length (now store)) ⌝ }
     ensures { λ r. ⌜ r ≡ fittingRows (now (fields .entry)) (now (store .entry)) 0 (length (now (fields .entry)) / 8) ⌝ }
 {
     let all = fields.len() / rows::FIELD_ROW;
