@@ -14,14 +14,14 @@ use Rattle.bits.specs.Bits.{number}
 use Rattle.rows.specs.Rows.{Tables, tables}
 use Rattle.rows.specs.Lawful.{lawful}
 use Rattle.rows.proofs.Registers.{width-bounds}
-use Rattle.model.specs.declared.StoredField.{StoredField}
+use Rattle.model.specs.declared.View.{View}
 use Rattle.model.specs.declared.Access.{Access}
 use Rattle.model.specs.declared.Access.the-variants.{Read, Write}
 use Rattle.model.specs.declared.Answer.the-variants as answer
 use Rattle.model.specs.Model.{fits, addressOf, widthOf, wellFormed, stepped, gives, bitsOf, wordFrom}
 use Rattle.model.specs.Repeats.{repeats}
 use Rattle.stored.proofs.Tests.{failed, passed}
-use Rattle.access.specs.Stored.{storedFields}
+use Rattle.access.specs.Stored.{storedFields, deviceFrom, deviceIn}
 use Rattle.access.specs.declared.Restored.the-variants as restored
 use Rattle.access.specs.declared.Retried.the-variants as retried
 use Rattle.access.specs.Perform.{isShort, isReached, refusalOf, answerOf, storeAfter, resetRefusal, resetAnswer, storeReset, retryRefusal, retryOf}
@@ -54,10 +54,10 @@ module _ (registers paths fields labels : List ℕ) {b : Bool} (f : b ≡ lawful
 
 module _ (t : Tables) (s : List ℕ) (q : lawful t ≡ true) where
   is-short : length s < length (t .fields) / 8 → isShort t s ≡ true
-  is-short h = lt-ltb (length s) (length (storedFields t)) (omega (arith, stored-count t q))
+  is-short h = lt-ltb (length s) (length (deviceIn t .sizes)) (omega (arith, stored-count t q))
 
   is-long : length (t .fields) / 8 ≤ length s → isShort t s ≡ false
-  is-long h = le-ltb (length s) (length (storedFields t)) (omega (arith, stored-count t q))
+  is-long h = le-ltb (length s) (length (deviceIn t .sizes)) (omega (arith, stored-count t q))
 
 reached-at : (t : Tables) (x : Access) {a : Offset} {w : ℕ} {r : Bool} → lawful t ≡ true → a ≡ addressOf x → w ≡ widthOf x
     → r ≡ reachedRows a w (t .registers) 0 (length (t .registers) / 14) → r ≡ isReached t x
@@ -81,7 +81,7 @@ module _ (t : Tables) (s : List ℕ) (x : Access) {a : Bool} (e : a ≡ wellForm
       refusal-short h = rw (passed e y, passed f z, is-short t s (passed f z) h)
 
       module _ {c : Bool} (h : length (t .fields) / 8 ≤ length s) (g : c ≡ fittingRows (t .fields) s 0 (length (t .fields) / 8)) where
-        fits-all : c ≡ fits (storedFields t) s
+        fits-all : c ≡ fits (deviceIn t .sizes) s
         fits-all = g ∙ stored-fitting t (passed f z) s h
 
         pub refusal-store : not c ≡ true → 24 ≡ refusalOf t s x
@@ -105,7 +105,7 @@ module _ {x : Access} {a : Offset} {w : ℕ} (registers fields : List ℕ) (e : 
   pub read-rows : LawfulRows (widthOf x) registers fields → LawfulRows w registers fields
   read-rows r = rw e at r
 
-  pub read-word : (s : List ℕ) {n : ℕ} → n ≡ number w (gives (allFields registers fields) a w (bitsOf s)) → n ≡ wordFrom (allFields registers fields) x (bitsOf s)
+  pub read-word : (s : List ℕ) {n : ℕ} → n ≡ number w (gives (allFields registers fields) a w (bitsOf s)) → n ≡ wordFrom (deviceFrom (allFields registers fields)) x (bitsOf s)
   read-word s f = rw e f
 
 -- the first refusal of the five tests, or 0
@@ -138,21 +138,21 @@ module _ (t : Tables) (s : List ℕ) (x : Access) where
   module _ {n : ℕ} (e : n ≡ refusalOf t s x) (z : n ≡ 0) where
     is-granted : Granted
     unfolding refusalOf
-    is-granted = granted (wellFormed x) (lawful t) (isShort t s) (fits (storedFields t) s) (isReached t x) refl refl refl (sym e ∙ z)
+    is-granted = granted (wellFormed x) (lawful t) (isShort t s) (fits (deviceIn t .sizes) s) (isReached t x) refl refl refl (sym e ∙ z)
 
     has-room : length (t .fields) / 8 ≤ length s
-    has-room = omega (arith, stored-count t (is-granted .rows), ltb-false (length s) (length (storedFields t)) (is-granted .room))
+    has-room = omega (arith, stored-count t (is-granted .rows), ltb-false (length s) (length (deviceIn t .sizes)) (is-granted .room))
 
     has-rows : LawfulRows (widthOf x) (t .registers) (t .fields)
     has-rows = record { paths = t .paths; labels = t .labels; rows = is-granted .rows; width = formed-width x (is-granted .form) }
 
-    pub answered-word : {w : ℕ} → w ≡ wordFrom (allFields (t .registers) (t .fields)) x (bitsOf s) → answer.Word w ≡ answerOf t s x
+    pub answered-word : {w : ℕ} → w ≡ wordFrom (deviceFrom (allFields (t .registers) (t .fields))) x (bitsOf s) → answer.Word w ≡ answerOf t s x
     unfolding answerOf
-    answered-word f = rw (sym e ∙ z) (ap answer.Word (f ∙ ap (λ (m : List StoredField). wordFrom m x (bitsOf s)) (sym (stored-rows t))))
+    answered-word f = rw (sym e ∙ z) (ap answer.Word (f ∙ ap (λ (m : List View). wordFrom (deviceFrom m) x (bitsOf s)) (sym (stored-rows t (is-granted .rows)))))
 
     pub answered-store : {u : List ℕ} → u ≡ stepped x (allFields (t .registers) (t .fields)) s → u ≡ storeAfter t s x
     unfolding storeAfter
-    answered-store f = rw (sym e ∙ z) (f ∙ ap (λ (m : List StoredField). stepped x m s) (sym (stored-rows t)))
+    answered-store f = rw (sym e ∙ z) (f ∙ ap (λ (m : List View). stepped x m s) (sym (stored-rows t (is-granted .rows))))
 
 -- what the functions of an access ask
 pub answered-asks : (registers paths fields labels s : List ℕ) (x : Access) {n : ℕ} → n ≡ refusalOf (tables registers paths fields labels) s x → n ≡ 0
@@ -209,7 +209,7 @@ module _ (t : Tables) (x : Access) {a : Bool} (e : a ≡ wellFormed x) where
 
       module _ {r : Bool} (v : not d ≡ false) (g : r ≡ repeats (allFields (t .registers) (t .fields)) x) where
         repeats-all : r ≡ repeats (storedFields t) x
-        repeats-all = g ∙ ap (λ (o : List StoredField). repeats o x) (sym (stored-rows t))
+        repeats-all = g ∙ ap (λ (o : List View). repeats o x) (sym (stored-rows t (passed f z)))
 
         pub retry-safe : r ≡ true → retried.Safe ≡ retryOf t x
         unfolding retryOf retryRefusal

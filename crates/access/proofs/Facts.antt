@@ -44,11 +44,12 @@ module _ (t : Tables) (all i first : ℕ) (e : isRegisterRow t all i first ≡ t
       and-right (isPath (t .registers) (t .paths) i (registerRow (t .registers) i .depth)) _
       (and-right (isRun all first (registerRow (t .registers) i)) _ (and-right (isPlaced (registerRow (t .registers) i)) _ e))
 
--- a field within its register, whose reset is no wider
+-- a field within its register, whose reset is no wider and whose effects are of use
 pub record Within (width : ℕ) (f : FieldAt) : Type 0 where
   pub order : f .low .0 ≤ f .high .0
   pub top : f .high .0 < width
   pub narrow : isResetWide f ≡ false
+  pub usable : hasUnusableEffect (f .values) ≡ false
 
 sound-within : (width : ℕ) (f : FieldAt) → isSoundField width f ≡ true → Within width f
 unfolding isSoundField isOutside
@@ -58,6 +59,7 @@ sound-within width f e =
       order = leb-true (f .low .0) (f .high .0) (and-left (leb (f .low .0) (f .high .0)) _ e);
       top = leb-false width (f .high .0) (not-true (leb width (f .high .0)) (and-left (not (leb width (f .high .0))) _ inside));
       narrow = not-true (isResetWide f) (and-right (not (hasUnusableEffect (f .values))) _ (and-right (not (leb width (f .high .0))) _ inside));
+      usable = not-true (hasUnusableEffect (f .values)) (and-left (not (hasUnusableEffect (f .values))) _ (and-right (not (leb width (f .high .0))) _ inside));
     }
 
 field-within : (fields labels : List ℕ) (width j : ℕ) → isFieldRow fields labels width j ≡ true → Within width (fieldRow fields j)
@@ -86,7 +88,7 @@ rows-within t all i first (suc n) e j l h =
     by (yes q) rest =
         let z : first + (j - first) ≡ j = omega arith in
         let w : Within (registerRow (t .registers) i .width) (fieldRow (t .fields) j) = rw z at (run-within t all i first own (j - first) (omega arith)) in
-        record { order = w .order; top = omega (arith, w .top, row-width t all i first own); narrow = w .narrow }
+        record { order = w .order; top = omega (arith, w .top, row-width t all i first own); narrow = w .narrow; usable = w .usable }
     by (no q) rest = rest (omega arith) h
 
 -- ---- lawful rows

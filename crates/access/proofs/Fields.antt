@@ -14,28 +14,45 @@ use Rattle.rows.specs.declared.RegisterRow.{RegisterRow}
 use Rattle.rows.specs.Lawful.{registerRow, fieldRow, isRegisterRow, areRows, areWhole, lawful}
 use Rattle.rows.specs.Reading.{fieldsFrom, entryIn, entriesFrom}
 use Rattle.rows.proofs.Each.{row-first}
-use Rattle.model.specs.declared.StoredField.{StoredField}
+use Rattle.model.specs.declared.View.{View}
 use Rattle.model.specs.Model.{anyReached, reachesRegister}
-use Rattle.access.specs.Stored.{storedIn, storedAmong, storedFields}
+use Rattle.access.specs.Stored.{storedIn, storedAmong, storedFields, sizesOf, deviceIn}
 use Rattle.access.specs.Runs.{registerOf, storedField, runFields, rowFields, storedRows, allFields, reachedRows}
 use Rattle.access.proofs.Facts.{row-run, row-some}
 use Rattle.access.proofs.Joined.{length-run}
 
 -- ---- the fields that stand in the tables are those of the rows
 
-run-stored : (t : Tables) (i j n : ℕ) → storedIn (entryIn t i) (fieldsFrom (t .fields) (t .labels) j n) ≡ runFields (registerRow (t .registers) i) (t .fields) j n
+run-stored : (t : Tables) (i j n : ℕ) → storedIn (entryIn t i) j (fieldsFrom (t .fields) (t .labels) j n) ≡ runFields (registerRow (t .registers) i) (t .fields) j n
 unfolding storedIn fieldsFrom runFields
 run-stored t i j zero = refl
-run-stored t i j (suc n) = ap (λ (l : List StoredField). storedField (registerRow (t .registers) i) (fieldRow (t .fields) j) ∷ l) (run-stored t i (suc j) n)
+run-stored t i j (suc n) = ap (λ (l : List View). storedField (registerRow (t .registers) i) (fieldRow (t .fields) j) j ∷ l) (run-stored t i (suc j) n)
 
-among-stored : (t : Tables) (i n : ℕ) → storedAmong (entriesFrom t i n) ≡ storedRows (t .registers) (t .fields) i n
-unfolding storedAmong entriesFrom storedRows
-among-stored t i zero = refl
-among-stored t i (suc n) =
-    ap₂ (λ (a b : List StoredField). a ++ b) (run-stored t i (registerRow (t .registers) i .first) (registerRow (t .registers) i .count)) (among-stored t (suc i) n)
+length-from : (fields labels : List ℕ) (j n : ℕ) → length (fieldsFrom fields labels j n) ≡ n
+unfolding fieldsFrom
+length-from fields labels j zero = refl
+length-from fields labels j (suc n) = ap suc (length-from fields labels (suc j) n)
 
-pub stored-rows : (t : Tables) → storedFields t ≡ allFields (t .registers) (t .fields)
-stored-rows t = among-stored t 0 (length (t .registers) / 14)
+-- the number of a field row is the row's own
+among-stored : (t : Tables) (all i first n : ℕ) → areRows t all i first n ≡ true → storedAmong first (entriesFrom t i n) ≡ storedRows (t .registers) (t .fields) i n
+unfolding areRows storedAmong entriesFrom storedRows
+among-stored t all i first zero e = refl
+among-stored t all i first (suc n) e =
+    let own : isRegisterRow t all i first ≡ true = and-left (isRegisterRow t all i first) _ e in
+    let r : RegisterRow = registerRow (t .registers) i in
+    let f : r .first ≡ first = row-first t all i first own in
+    ap₂ (λ (a b : List View). a ++ b)
+    (ap (λ (k : ℕ). storedIn (entryIn t i) k (entryIn t i .fields)) (sym f) ∙ run-stored t i (r .first) (r .count))
+    (ap (λ (k : ℕ). storedAmong (first + k) (entriesFrom t (suc i) n)) (length-from (t .fields) (t .labels) (r .first) (r .count))
+    ∙ among-stored t all (suc i) (first + r .count) n (and-right (isRegisterRow t all i first) _ e))
+
+-- the rows of lawful tables
+pub whole-rows : (t : Tables) → lawful t ≡ true → areRows t (length (t .fields) / 8) 0 0 (length (t .registers) / 14) ≡ true
+unfolding lawful
+whole-rows t e = and-right (areWhole (length (t .registers)) (length (t .paths)) (length (t .fields)) (length (t .labels))) _ e
+
+pub stored-rows : (t : Tables) → lawful t ≡ true → storedFields t ≡ allFields (t .registers) (t .fields)
+stored-rows t e = among-stored t (length (t .fields) / 8) 0 0 (length (t .registers) / 14) (whole-rows t e)
 
 -- ---- the field rows, one after the other
 
@@ -48,17 +65,17 @@ unfolding atRows
 length-at fields j zero = refl
 length-at fields j (suc n) = ap suc (length-at fields (suc j) n)
 
-unfoldable pub fieldsAt : List StoredField → List FieldAt
+unfoldable pub fieldsAt : List View → List FieldAt
 fieldsAt [] = []
 fieldsAt (c ∷ m) = c .field ∷ fieldsAt m
 
-length-fields : (m : List StoredField) → length (fieldsAt m) ≡ length m
+length-fields : (m : List View) → length (fieldsAt m) ≡ length m
 unfolding fieldsAt
 length-fields [] = refl
 length-fields (c ∷ m) = ap suc (length-fields m)
 
 -- a run's fields, then those of the next rows
-run-at : (r : RegisterRow) (fields : List ℕ) (j n k : ℕ) (m : List StoredField) → fieldsAt m ≡ atRows fields (j + n) k → fieldsAt (runFields r fields j n ++ m) ≡ atRows fields j (n + k)
+run-at : (r : RegisterRow) (fields : List ℕ) (j n k : ℕ) (m : List View) → fieldsAt m ≡ atRows fields (j + n) k → fieldsAt (runFields r fields j n ++ m) ≡ atRows fields j (n + k)
 unfolding fieldsAt atRows runFields
 run-at r fields j zero k m e =
     let z : j + 0 ≡ j = omega arith in
@@ -86,23 +103,23 @@ rows-at t all i first (suc n) e =
     (rows-at t all (suc i) (first + r .count) n (and-right (isRegisterRow t all i first) _ e))
     ∙ ap (atRows (t .fields) first) k
 
--- the rows of lawful tables
-pub whole-rows : (t : Tables) → lawful t ≡ true → areRows t (length (t .fields) / 8) 0 0 (length (t .registers) / 14) ≡ true
-unfolding lawful
-whole-rows t e = and-right (areWhole (length (t .registers)) (length (t .paths)) (length (t .fields)) (length (t .labels))) _ e
-
 pub stored-at : (t : Tables) → lawful t ≡ true → fieldsAt (storedFields t) ≡ atRows (t .fields) 0 (length (t .fields) / 8)
 stored-at t e =
     let n : length (t .fields) / 8 - 0 ≡ length (t .fields) / 8 = omega arith in
-    ap fieldsAt (stored-rows t) ∙ rows-at t (length (t .fields) / 8) 0 0 (length (t .registers) / 14) (whole-rows t e) ∙ ap (atRows (t .fields) 0) n
+    ap fieldsAt (stored-rows t e) ∙ rows-at t (length (t .fields) / 8) 0 0 (length (t .registers) / 14) (whole-rows t e) ∙ ap (atRows (t .fields) 0) n
 
 -- as many numbers as field rows
-pub stored-count : (t : Tables) → lawful t ≡ true → length (storedFields t) ≡ length (t .fields) / 8
-stored-count t e = sym (length-fields (storedFields t)) ∙ ap length (stored-at t e) ∙ length-at (t .fields) 0 (length (t .fields) / 8)
+length-sizes : (m : List View) → length (sizesOf m) ≡ length m
+unfolding sizesOf
+length-sizes [] = refl
+length-sizes (c ∷ m) = ap suc (length-sizes m)
+
+pub stored-count : (t : Tables) → lawful t ≡ true → length (deviceIn t .sizes) ≡ length (t .fields) / 8
+stored-count t e = length-sizes (storedFields t) ∙ sym (length-fields (storedFields t)) ∙ ap length (stored-at t e) ∙ length-at (t .fields) 0 (length (t .fields) / 8)
 
 -- ---- registers that are reached
 
-run-reached : (a : Offset) (w : ℕ) (r : RegisterRow) (fields : List ℕ) (j n : ℕ) (m : List StoredField) (b : Bool) → reachesRegister a w (r .address) (registerOf r) ≡ b → 0 < n
+run-reached : (a : Offset) (w : ℕ) (r : RegisterRow) (fields : List ℕ) (j n : ℕ) (m : List View) (b : Bool) → reachesRegister a w (r .address) (registerOf r) ≡ b → 0 < n
     → anyReached (runFields r fields j n ++ m) a w ≡ b || anyReached m a w
 unfolding anyReached runFields
 run-reached a w r fields j zero m b e h = absurd (omega arith)
@@ -124,7 +141,7 @@ rows-reached a w t all i first (suc n) e =
 
 pub stored-reached : (a : Offset) (w : ℕ) (t : Tables) → lawful t ≡ true → reachedRows a w (t .registers) 0 (length (t .registers) / 14) ≡ anyReached (storedFields t) a w
 stored-reached a w t e =
-    rows-reached a w t (length (t .fields) / 8) 0 0 (length (t .registers) / 14) (whole-rows t e) ∙ ap (λ (m : List StoredField). anyReached m a w) (sym (stored-rows t))
+    rows-reached a w t (length (t .fields) / 8) 0 0 (length (t .registers) / 14) (whole-rows t e) ∙ ap (λ (m : List View). anyReached m a w) (sym (stored-rows t e))
 
 -- ---- where the fields of a register stand
 
@@ -137,7 +154,7 @@ rows-length t all i first (suc n) zero e h =
     y ∙ sym (row-first t all i first (and-left (isRegisterRow t all i first) _ e)) ∙ ap (λ (j : ℕ). registerRow (t .registers) j .first) z
 rows-length t all i first (suc n) (suc k) e h =
     let r : RegisterRow = registerRow (t .registers) i in
-    let rest : List StoredField = storedRows (t .registers) (t .fields) (suc i) k in
+    let rest : List View = storedRows (t .registers) (t .fields) (suc i) k in
     let l : length (rowFields r (t .fields) ++ rest) ≡ r .count + length rest = length-append (rowFields r (t .fields)) rest ∙ ap (λ (m : ℕ). m + length rest) (length-run r (t .fields) (r .first) (r .count)) in
     let y : first + length (rowFields r (t .fields) ++ rest) ≡ (first + r .count) + length rest = omega (arith, l) in
     let z : suc i + k ≡ i + suc k = omega arith in

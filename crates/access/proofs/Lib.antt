@@ -1,6 +1,7 @@
 pub mod Facts
 pub mod Joined
 pub mod Fields
+pub mod Suited
 pub mod Stores
 pub mod Loops
 pub mod Answers

@@ -1,14 +1,13 @@
 -- Laws of the loops: what has been done so far, or what is left from here, comes to the whole.
 use mathlib.Core.Bool.{Bool, true, false, not, _&&_}
-use mathlib.Core.Path.{_≡_, refl, sym, ap, ap₂, _∙_, fun-ext}
-use mathlib.Core.List.{List, [], _∷_, _++_, append-nil}
+use mathlib.Core.Path.{_≡_, refl, sym, ap, ap₂, _∙_}
+use mathlib.Core.List.{List, [], _∷_, _++_}
 use Prim.Native.Nat.{ℕ, zero, suc, _+_, _-_, _/_, _^_, _<_, _≤_}
 use native.Mathlib.Omega.{arith}
 use lib.Bits.{bitOr}
 use lib.Dec.{leb}
-use lib.ListN.{length, getD, set, take, drop, length-drop}
-use lib.Seq.{drop-cons, drop-drop, drop-length, set-at, append-snoc, getD-drop, take-all}
-use borrow.Rule.Slice.PartMut.{putMid, midOf}
+use lib.ListN.{length, getD, set, drop}
+use lib.Seq.{drop-cons, set-at, append-snoc}
 use Rattle.components.specs.declared.FieldAt.{FieldAt}
 use Rattle.components.specs.declared.Offset.{Offset}
 use Rattle.components.specs.declared.Register.{Register}
@@ -16,7 +15,7 @@ use Rattle.bits.specs.Bits.{bit, number}
 use Rattle.rows.specs.Rows.{Tables, tables}
 use Rattle.rows.specs.declared.RegisterRow.{RegisterRow}
 use Rattle.rows.specs.Lawful.{registerRow, fieldRow}
-use Rattle.model.specs.declared.StoredField.{StoredField}
+use Rattle.model.specs.declared.View.{View}
 use Rattle.model.specs.declared.Access.{Access}
 use Rattle.model.specs.Model.{size, numberAfter, stepped, fieldGives, gives, bitsOf, reachesRegister}
 use Rattle.model.specs.Repeats.{repeats, allBelow, repeatsBit}
@@ -24,8 +23,8 @@ use Rattle.stored.specs.Ranges.{Usable}
 use Rattle.stored.proofs.Tests.{failed, passed, fits-yes}
 use Rattle.access.specs.Runs.{LawfulRows, Runs, RangedFields, registerOf, storedField, runFields, rowFields, storedRows, reachedRows, isFitting, fittingRows, resetIn, resetsFrom}
 use Rattle.access.proofs.Facts as facts
-use Rattle.access.proofs.Joined.{rows-last, length-stepped, stepped-field, stepped-more, word-more, word-field, no-word, repeats-more}
-use Rattle.access.proofs.Fields.{stored-first}
+use Rattle.model.proofs.Joined.{length-stepped, stepped-join, word-join, repeats-join}
+use Rattle.access.proofs.Joined.{rows-last, stepped-field, word-field, no-word}
 
 -- the numbers of a loop's start, step and end
 module _ (start k : ℕ) where
@@ -52,30 +51,15 @@ module _ (n : ℕ) where
   all-left : n - 0 ≡ n
   all-left = omega arith
 
--- ---- a part of a slice that goes to its end
-
-mid-tail : (n : ℕ) (s : List ℕ) → midOf n (length s - n) s ≡ drop n s
-mid-tail n s = take-all (length s - n) (drop n s) (omega (arith, length-drop n s))
-
-put-tail : (n : ℕ) (s u : List ℕ) → n ≤ length s → putMid n (length s - n) s u ≡ take n s ++ u
-put-tail n s u h =
-    let z : n + (length s - n) ≡ length s = omega arith in
-    ap (λ (l : List ℕ). take n s ++ (u ++ l)) (drop-drop (length s - n) n s ∙ ap (λ (k : ℕ). drop k s) z ∙ drop-length s)
-    ∙ ap (λ (l : List ℕ). take n s ++ l) (append-nil u)
-
--- the bits of such a part of a store
-bits-behind : (n : ℕ) (s : List ℕ) → bitsOf (midOf n (length s - n) s) ≡ (λ (f : ℕ). bitsOf s (n + f))
-bits-behind n s = ap bitsOf (mid-tail n s) ∙ fun-ext (λ f. ap bit (getD-drop n s f 0))
-
 -- ---- one register, and one field
 
 -- the field at a field row, of which calls answer the parts
-field-at : (row : RegisterRow) (fields : List ℕ) (j : ℕ) {f : FieldAt} {c : StoredField} → f ≡ fieldRow fields j → c ≡ storedField row f → c ≡ storedField row (fieldRow fields j)
-field-at row fields j e g = g ∙ ap (storedField row) e
+field-at : (row : RegisterRow) (fields : List ℕ) (j : ℕ) {f : FieldAt} {c : View} → f ≡ fieldRow fields j → c ≡ storedField row f j → c ≡ storedField row (fieldRow fields j) j
+field-at row fields j e g = g ∙ ap (λ (o : FieldAt). storedField row o j) e
 
 -- what the functions of one register and of one field ask
-pub field-usable : (w : ℕ) (row : RegisterRow) (fields : List ℕ) (k : ℕ) {f : FieldAt} {c : StoredField} → Runs w fields row → k < row .count → f ≡ fieldRow fields (row .first + k)
-    → c ≡ storedField row f → Usable w c
+pub field-usable : (w : ℕ) (row : RegisterRow) (fields : List ℕ) (k : ℕ) {f : FieldAt} {c : View} → Runs w fields row → k < row .count → f ≡ fieldRow fields (row .first + k)
+    → c ≡ storedField row f (row .first + k) → Usable w c
 field-usable w row fields k r h p q = rw (field-at row fields (row .first + k) p q) (r .usable k h)
 
 abbrev rowsOf : {w : ℕ} {registers fields : List ℕ} → LawfulRows w registers fields → Tables
@@ -94,14 +78,8 @@ module _ (w : ℕ) (registers fields : List ℕ) (i : ℕ) (r : LawfulRows w reg
 
     -- the store has a register's numbers
     module _ (s₀ s : List ℕ) (l : length fields / 8 ≤ length s₀) (e : length s ≡ length s₀) where
-      row-room : row .first + row .count ≤ length s
+      pub row-room : row .first + row .count ≤ length s
       row-room = rw (p, e) (facts.row-room (rowsOf r) (r .rows) s₀ l i h)
-
-      pub row-below : row .first ≤ length s
-      row-below = omega (arith, row-room)
-
-      pub row-left : row .count ≤ length (midOf (row .first) (length s - row .first) s)
-      row-left = omega (arith, row-room, ap length (mid-tail (row .first) s), length-drop (row .first) s)
 
 module _ (fields : List ℕ) (j : ℕ) {f : FieldAt} (r : RangedFields fields) (h : j < length fields / 8) (p : f ≡ fieldRow fields j) where
   pub field-order : f .low .0 ≤ f .high .0
@@ -130,9 +108,9 @@ module _ (x : Access) (row : RegisterRow) (fields : List ℕ) (first : ℕ) wher
     pub step-end : (count : ℕ) → k ≤ count → count ≤ k → s ≡ stepped x (runFields row fields first count) s₀
     step-end count l h = let z : k ≡ count = omega arith in rw (← z) done
 
-    pub step-on : {f : FieldAt} {c : StoredField} {n : ℕ} → k < length s₀ → f ≡ fieldRow fields (first + k) → c ≡ storedField row f → n ≡ numberAfter x c (getD s k 0)
-        → set s k n ≡ stepped x (runFields row fields first (k + 1)) s₀
-    step-on h p q e = rw (next-k k, e, field-at row fields (first + k) p q, done) (stepped-field x row fields first k s₀ h)
+    pub step-on : {f : FieldAt} {c : View} {n : ℕ} → f ≡ fieldRow fields (first + k) → c ≡ storedField row f (first + k) → n ≡ numberAfter x c (getD s (first + k) 0)
+        → set s (first + k) n ≡ stepped x (runFields row fields first (k + 1)) s₀
+    step-on p q e = rw (next-k k, e, field-at row fields (first + k) p q, done) (stepped-field x row fields first k s₀)
 
 pub ruleset step-loop = (step-start, step-end, step-on)
 
@@ -145,18 +123,15 @@ module _ (x : Access) (registers fields : List ℕ) where
     pub steps-end : (count : ℕ) → i ≤ count → count ≤ i → s ≡ stepped x (storedRows registers fields 0 count) s₀
     steps-end count l h = let z : i ≡ count = omega arith in rw (← z) done
 
-    pub steps-on : {w : ℕ} {row : RegisterRow} {u : List ℕ} → LawfulRows w registers fields → i < length registers / 14 → length fields / 8 ≤ length s₀ → row ≡ registerRow registers i
-        → u ≡ stepped x (rowFields row fields) (midOf (row .first) (length s - row .first) s)
-        → putMid (row .first) (length s - row .first) s u ≡ stepped x (storedRows registers fields 0 (i + 1)) s₀
-    steps-on {row = row} {u = u} r h l p e =
-        let m : List StoredField = storedRows registers fields 0 i in
-        let f : length m ≡ row .first = stored-first (rowsOf r) (r .rows) i h ∙ ap (λ (o : RegisterRow). o .first) (sym p) in
-        let k : length s ≡ length s₀ = ap length done ∙ length-stepped x m s₀ in
-        put-tail (row .first) s u (omega (arith, k, row-below _ registers fields i r h p s₀ s l k))
-        ∙ ap (λ (o : List ℕ). take (row .first) s ++ o) (e ∙ ap (stepped x (rowFields row fields)) (mid-tail (row .first) s))
-        ∙ ap₂ (λ (n : ℕ) (o : List ℕ). take n o ++ stepped x (rowFields row fields) (drop n o)) (sym f) done
-        ∙ stepped-more x m (rowFields row fields) s₀
-        ∙ ap (λ (o : List StoredField). stepped x o s₀) (row-behind registers fields i p)
+    pub steps-on : {row : RegisterRow} {u : List ℕ} → row ≡ registerRow registers i → u ≡ stepped x (rowFields row fields) s
+        → u ≡ stepped x (storedRows registers fields 0 (i + 1)) s₀
+    steps-on {row = row} p e =
+        e ∙ ap (stepped x (rowFields row fields)) done
+        ∙ sym (stepped-join x (storedRows registers fields 0 i) (rowFields row fields) s₀)
+        ∙ ap (λ (o : List View). stepped x o s₀) (row-behind registers fields i p)
+
+pub steps-long : (x : Access) (cs : List View) (s₀ s u : List ℕ) → length s ≡ length s₀ → u ≡ stepped x cs s → length u ≡ length s₀
+steps-long x cs s₀ s u h e = ap length e ∙ length-stepped x cs s ∙ h
 
 pub ruleset steps-loop = (steps-start, steps-end, steps-on)
 
@@ -171,7 +146,7 @@ module _ (a : Offset) (w : ℕ) (row : RegisterRow) (fields : List ℕ) (first :
     pub join-end : (count : ℕ) → k ≤ count → count ≤ k → word ≡ number w (gives (runFields row fields first count) a w (bitsOf s))
     join-end count l h = let z : k ≡ count = omega arith in rw (← z) done
 
-    pub join-on : {f : FieldAt} {c : StoredField} {n : ℕ} → f ≡ fieldRow fields (first + k) → c ≡ storedField row f → n ≡ number w (fieldGives a w c (bit (getD s k 0)))
+    pub join-on : {f : FieldAt} {c : View} {n : ℕ} → f ≡ fieldRow fields (first + k) → c ≡ storedField row f (first + k) → n ≡ number w (fieldGives a w c (bit (getD s (first + k) 0)))
         → bitOr word n ≡ number w (gives (runFields row fields first (k + 1)) a w (bitsOf s))
     join-on p q e = rw (next-k k, e, field-at row fields (first + k) p q, done) (word-field row fields first k a w (bitsOf s))
 
@@ -186,15 +161,12 @@ module _ (a : Offset) (w : ℕ) (registers fields : List ℕ) (s : List ℕ) whe
     pub joins-end : (count : ℕ) → i ≤ count → count ≤ i → word ≡ number w (gives (storedRows registers fields 0 count) a w (bitsOf s))
     joins-end count l h = let z : i ≡ count = omega arith in rw (← z) done
 
-    pub joins-on : {row : RegisterRow} {n : ℕ} → LawfulRows w registers fields → i < length registers / 14 → row ≡ registerRow registers i
-        → n ≡ number w (gives (rowFields row fields) a w (bitsOf (midOf (row .first) (length s - row .first) s)))
+    pub joins-on : {row : RegisterRow} {n : ℕ} → row ≡ registerRow registers i → n ≡ number w (gives (rowFields row fields) a w (bitsOf s))
         → bitOr word n ≡ number w (gives (storedRows registers fields 0 (i + 1)) a w (bitsOf s))
-    joins-on {row = row} r h p e =
-        let m : List StoredField = storedRows registers fields 0 i in
-        let f : length m ≡ row .first = stored-first (rowsOf r) (r .rows) i h ∙ ap (λ (o : RegisterRow). o .first) (sym p) in
-        ap₂ bitOr done (e ∙ ap (λ (b : ℕ → ℕ → Bool). number w (gives (rowFields row fields) a w b)) (bits-behind (row .first) s ∙ ap {B = ℕ → ℕ → Bool} (λ (n : ℕ) (g : ℕ). bitsOf s (n + g)) (sym f)))
-        ∙ word-more m (rowFields row fields) a w (bitsOf s)
-        ∙ ap (λ (o : List StoredField). number w (gives o a w (bitsOf s))) (row-behind registers fields i p)
+    joins-on {row = row} p e =
+        ap₂ bitOr done e
+        ∙ word-join (storedRows registers fields 0 i) (rowFields row fields) a w (bitsOf s)
+        ∙ ap (λ (o : List View). number w (gives o a w (bitsOf s))) (row-behind registers fields i p)
 
 pub ruleset joins-loop = (joins-start, joins-end, joins-on)
 
@@ -297,9 +269,9 @@ module _ (x : Access) (row : RegisterRow) (fields : List ℕ) (first count : ℕ
     unfolding runFields repeats
     again-end h = rw (left-none count k h) at left
 
-    module _ {f : FieldAt} {c : StoredField} {r : Bool} (h : k < count) (p : f ≡ fieldRow fields (first + k)) (q : c ≡ storedField row f) (e : r ≡ allBelow (size c) (repeatsBit x c)) where
-      again-at : r ≡ allBelow (size (storedField row (fieldRow fields (first + k)))) (repeatsBit x (storedField row (fieldRow fields (first + k))))
-      again-at = e ∙ ap (λ (o : StoredField). allBelow (size o) (repeatsBit x o)) (field-at row fields (first + k) p q)
+    module _ {f : FieldAt} {c : View} {r : Bool} (h : k < count) (p : f ≡ fieldRow fields (first + k)) (q : c ≡ storedField row f (first + k)) (e : r ≡ allBelow (size c) (repeatsBit x c)) where
+      again-at : r ≡ allBelow (size (storedField row (fieldRow fields (first + k)) (first + k))) (repeatsBit x (storedField row (fieldRow fields (first + k)) (first + k)))
+      again-at = e ∙ ap (λ (o : View). allBelow (size o) (repeatsBit x o)) (field-at row fields (first + k) p q)
 
       pub again-stop : not r ≡ true → false ≡ y
       unfolding runFields repeats
@@ -326,7 +298,7 @@ module _ (x : Access) (registers fields : List ℕ) (count : ℕ) where
 
       rest-joined : (repeats (rowFields (registerRow registers i) fields) x && repeats (storedRows registers fields (suc i) (count - suc i)) x) ≡ y
       unfolding storedRows
-      rest-joined = sym (repeats-more x (rowFields (registerRow registers i) fields) (storedRows registers fields (suc i) (count - suc i))) ∙ (rw (rows-more count i h) at left)
+      rest-joined = sym (repeats-join x (rowFields (registerRow registers i) fields) (storedRows registers fields (suc i) (count - suc i))) ∙ (rw (rows-more count i h) at left)
 
       pub repeat-stop : not r ≡ true → false ≡ y
       repeat-stop z = rw (failed repeat-at z) at rest-joined

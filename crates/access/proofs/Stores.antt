@@ -16,9 +16,9 @@ use Rattle.components.specs.declared.FieldAt.{FieldAt}
 use Rattle.components.specs.Fields.{isWide, isResetWide}
 use Rattle.rows.specs.Rows.{Tables}
 use Rattle.rows.specs.Lawful.{fieldRow, lawful}
-use Rattle.model.specs.declared.StoredField.{StoredField}
+use Rattle.model.specs.declared.View.{View}
 use Rattle.model.specs.Model.{fits, size}
-use Rattle.access.specs.Stored.{storedFields}
+use Rattle.access.specs.Stored.{storedFields, sizesOf, deviceIn}
 use Rattle.access.specs.Perform.{resets}
 use Rattle.access.specs.Runs.{isFitting, fittingRows, resetIn, resetsFrom}
 use Rattle.access.proofs.Facts.{all-within}
@@ -31,8 +31,8 @@ fitsAt [] s = true
 fitsAt (f ∷ fs) [] = false
 fitsAt (f ∷ fs) (v ∷ s) = isFitting v f && fitsAt fs s
 
-fits-fields : (m : List StoredField) (s : List ℕ) → fits m s ≡ fitsAt (fieldsAt m) s
-unfolding fits fitsAt fieldsAt
+fits-fields : (m : List View) (s : List ℕ) → fits (sizesOf m) s ≡ fitsAt (fieldsAt m) s
+unfolding fits fitsAt fieldsAt sizesOf
 fits-fields [] s = refl
 fits-fields (c ∷ m) [] = refl
 fits-fields (c ∷ m) (v ∷ s) = ap (λ (b : Bool). ltb v (2 ^ size c) && b) (fits-fields m s)
@@ -45,7 +45,7 @@ fitting-at fields s j (suc n) h =
     ∙ ap (fitsAt (fieldRow fields j ∷ atRows fields (suc j) n)) (sym (drop-cons s j 0 (omega arith)))
 
 pub stored-fitting : (t : Tables) → lawful t ≡ true → (s : List ℕ) → length (t .fields) / 8 ≤ length s
-    → fittingRows (t .fields) s 0 (length (t .fields) / 8) ≡ fits (storedFields t) s
+    → fittingRows (t .fields) s 0 (length (t .fields) / 8) ≡ fits (deviceIn t .sizes) s
 stored-fitting t e s h =
     let n : 0 + length (t .fields) / 8 ≤ length s = omega arith in
     fitting-at (t .fields) s 0 (length (t .fields) / 8) n ∙ ap (λ (l : List FieldAt). fitsAt l s) (sym (stored-at t e)) ∙ sym (fits-fields (storedFields t) s)
@@ -56,7 +56,7 @@ resetsAt : List FieldAt → List ℕ
 resetsAt [] = []
 resetsAt (f ∷ fs) = resetIn f ∷ resetsAt fs
 
-resets-fields : (m : List StoredField) → resets m ≡ resetsAt (fieldsAt m)
+resets-fields : (m : List View) → resets m ≡ resetsAt (fieldsAt m)
 unfolding resets resetsAt fieldsAt
 resets-fields [] = refl
 resets-fields (c ∷ m) = ap (λ (l : List ℕ). resetIn (c .field) ∷ l) (resets-fields m)
@@ -67,7 +67,7 @@ resets-rows fields j zero = refl
 resets-rows fields j (suc n) = ap (λ (l : List ℕ). resetIn (fieldRow fields j) ∷ l) (resets-rows fields (suc j) n)
 
 pub stored-reset : (t : Tables) → lawful t ≡ true → (s : List ℕ)
-    → resetsFrom (t .fields) 0 (length (t .fields) / 8) ++ drop (length (t .fields) / 8) s ≡ resets (storedFields t) ++ drop (length (storedFields t)) s
+    → resetsFrom (t .fields) 0 (length (t .fields) / 8) ++ drop (length (t .fields) / 8) s ≡ resets (storedFields t) ++ drop (length (deviceIn t .sizes)) s
 stored-reset t e s =
     ap₂ (λ (l : List ℕ) (n : ℕ). l ++ drop n s)
     (resets-rows (t .fields) 0 (length (t .fields) / 8) ∙ ap resetsAt (sym (stored-at t e)) ∙ sym (resets-fields (storedFields t)))
@@ -92,7 +92,7 @@ resets-fit fields rest j zero h = refl
 resets-fit fields rest j (suc n) h =
     ap₂ (λ (a b : Bool). a && b) (narrow-fits (fieldRow fields j) (h j (omega arith) (omega arith))) (resets-fit fields rest (suc j) n (λ k l m. h k (omega arith) (omega arith)))
 
-pub stored-reset-fits : (t : Tables) → lawful t ≡ true → (rest : List ℕ) → fits (storedFields t) (resets (storedFields t) ++ rest) ≡ true
+pub stored-reset-fits : (t : Tables) → lawful t ≡ true → (rest : List ℕ) → fits (deviceIn t .sizes) (resets (storedFields t) ++ rest) ≡ true
 stored-reset-fits t e rest =
     fits-fields (storedFields t) (resets (storedFields t) ++ rest)
     ∙ ap₂ (λ (l : List FieldAt) (r : List ℕ). fitsAt l (r ++ rest)) (stored-at t e) (resets-fields (storedFields t) ∙ ap resetsAt (stored-at t e))

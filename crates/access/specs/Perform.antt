@@ -8,12 +8,12 @@ use Rattle.chars.specs.Choice.{if_then_else_}
 use Rattle.properties.specs.Assigned.{orElse}
 use Rattle.rows.specs.Rows.{Tables}
 use Rattle.rows.specs.Lawful.{lawful}
-use Rattle.model.specs.declared.StoredField.{StoredField}
+use Rattle.model.specs.declared.View.{View}
 use Rattle.model.specs.declared.Access.{Access}
 use Rattle.model.specs.declared.Answer.{Answer}
 use Rattle.model.specs.Model.{fits, addressOf, widthOf, wellFormed, anyReached, stepped, bitsOf, wordFrom, answerWith}
 use Rattle.model.specs.Repeats.{repeats}
-use Rattle.access.specs.Stored.{storedFields}
+use Rattle.access.specs.Stored.{storedFields, deviceIn}
 use Rattle.access.specs.declared.Restored.{Restored}
 use Rattle.access.specs.declared.Restored.the-variants as restored
 use Rattle.access.specs.declared.Retried.{Retried}
@@ -21,7 +21,7 @@ use Rattle.access.specs.declared.Retried.the-variants as retried
 
 -- 22: "store .. shorter than the .. numbers .. it must hold"
 abbrev pub isShort : Tables → List ℕ → Bool
-isShort t s = ltb (length s) (length (storedFields t))
+isShort t s = ltb (length s) (length (deviceIn t .sizes))
 
 -- 25: "no register reached"
 abbrev pub isReached : Tables → Access → Bool
@@ -33,13 +33,13 @@ refusalOf t s x =
     if not (wellFormed x) then 23 else
     if not (lawful t) then 24 else
     if isShort t s then 22 else
-    if not (fits (storedFields t) s) then 24 else
+    if not (fits (deviceIn t .sizes) s) then 24 else
     if not (isReached t x) then 25 else
     0
 
 -- "Refused: counts and word are 0"; else a read answers its word, and a write 0
 unfoldable pub answerOf : Tables → List ℕ → Access → Answer
-answerOf t s x = answerWith (refusalOf t s x) (wordFrom (storedFields t) x (bitsOf s))
+answerOf t s x = answerWith (refusalOf t s x) (wordFrom (deviceIn t) x (bitsOf s))
 
 -- the store where nothing is refused, and where something is: "nothing lent changes"
 abbrev pub unlessRefused : ℕ → List ℕ → List ℕ → List ℕ
@@ -51,7 +51,7 @@ unfoldable pub storeAfter : Tables → List ℕ → Access → List ℕ
 storeAfter t s x = unlessRefused (refusalOf t s x) (stepped x (storedFields t) s) s
 
 -- "It starts as the reset, or 0"
-unfoldable pub resets : List StoredField → List ℕ
+unfoldable pub resets : List View → List ℕ
 resets [] = []
 resets (c ∷ m) = orElse 0 (c .field .values .reset) ∷ resets m
 
@@ -65,11 +65,11 @@ restoredWith zero count = restored.Written count
 restoredWith (suc n) count = restored.Refused (suc n)
 
 unfoldable pub resetAnswer : Tables → List ℕ → Restored
-resetAnswer t s = restoredWith (resetRefusal t s) (length (storedFields t))
+resetAnswer t s = restoredWith (resetRefusal t s) (length (deviceIn t .sizes))
 
 -- "the first .. numbers .. are written, the rest stay"
 unfoldable pub storeReset : Tables → List ℕ → List ℕ
-storeReset t s = unlessRefused (resetRefusal t s) (resets (storedFields t) ++ drop (length (storedFields t)) s) s
+storeReset t s = unlessRefused (resetRefusal t s) (resets (storedFields t) ++ drop (length (deviceIn t .sizes)) s) s
 
 -- an answer in document 01's numbers: the refusal or 0, and the count, 0 where it is refused; the place is always 0
 abbrev pub refusalIn : Restored → ℕ

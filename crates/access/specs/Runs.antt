@@ -13,7 +13,7 @@ use Rattle.components.specs.declared.Register.{Register}
 use Rattle.rows.specs.Rows.{tables}
 use Rattle.rows.specs.declared.RegisterRow.{RegisterRow}
 use Rattle.rows.specs.Lawful.{registerRow, fieldRow, lawful}
-use Rattle.model.specs.declared.StoredField.{StoredField}
+use Rattle.model.specs.declared.View.{View}
 use Rattle.model.specs.Model.{reachesRegister}
 use Rattle.stored.specs.Ranges.{Usable}
 
@@ -21,25 +21,25 @@ use Rattle.stored.specs.Ranges.{Usable}
 abbrev pub registerOf : RegisterRow → Register
 registerOf r = record { width = r .width; access = r .access }
 
--- a field with its register
-abbrev pub storedField : RegisterRow → FieldAt → StoredField
-storedField r f = record { base = r .address; register = registerOf r; field = f }
+-- a field with its register, and the number that it shows
+abbrev pub storedField : RegisterRow → FieldAt → ℕ → View
+storedField r f j = record { base = r .address; register = registerOf r; field = f; slot = j }
 
 -- `n` fields of a register's row, from field row j on
-unfoldable pub runFields : RegisterRow → List ℕ → ℕ → ℕ → List StoredField
+unfoldable pub runFields : RegisterRow → List ℕ → ℕ → ℕ → List View
 runFields r fields j zero = []
-runFields r fields j (suc n) = storedField r (fieldRow fields j) ∷ runFields r fields (suc j) n
+runFields r fields j (suc n) = storedField r (fieldRow fields j) j ∷ runFields r fields (suc j) n
 
-abbrev pub rowFields : RegisterRow → List ℕ → List StoredField
+abbrev pub rowFields : RegisterRow → List ℕ → List View
 rowFields r fields = runFields r fields (r .first) (r .count)
 
 -- the fields of `n` registers from register row i on
-unfoldable pub storedRows : List ℕ → List ℕ → ℕ → ℕ → List StoredField
+unfoldable pub storedRows : List ℕ → List ℕ → ℕ → ℕ → List View
 storedRows registers fields i zero = []
 storedRows registers fields i (suc n) = rowFields (registerRow registers i) fields ++ storedRows registers fields (suc i) n
 
 -- the fields of all registers
-abbrev pub allFields : List ℕ → List ℕ → List StoredField
+abbrev pub allFields : List ℕ → List ℕ → List View
 allFields registers fields = storedRows registers fields 0 (length registers / 14)
 
 -- 25: a register is reached, among `n` from register row i on
@@ -75,7 +75,7 @@ pub record LawfulRows (w : ℕ) (registers fields : List ℕ) : Type 0 where
 -- what the functions of one register ask: its fields' rows are few, and an access of this width can use each field
 pub record Runs (w : ℕ) (fields : List ℕ) (r : RegisterRow) : Type 0 where
   pub few : r .first + r .count ≤ 4096
-  pub usable : (k : ℕ) → k < r .count → Usable w (storedField r (fieldRow fields (r .first + k)))
+  pub usable : (k : ℕ) → k < r .count → Usable w (storedField r (fieldRow fields (r .first + k)) (r .first + k))
 
 -- what the loop over all field rows asks
 pub record RangedFields (fields : List ℕ) : Type 0 where

@@ -4,16 +4,17 @@ use components::Offset;
 use components::Register;
 use model::Access;
 use model::Answer;
-use model::StoredField;
+use model::View;
 use rows::RegisterRow;
 ghost use mathlib.Core.Path.{_≡_};
 ghost use mathlib.Core.List.{_++_};
-ghost use Prim.Native.Nat.{_/_, _≤_, _<_};
+ghost use Prim.Native.Nat.{_+_, _/_, _≤_, _<_};
 ghost use lib.ListN.{length, drop};
 ghost use Rattle.bits.specs.Bits.{number};
 ghost use Rattle.rows.specs.Rows.{tables};
 ghost use Rattle.model.specs.Model.{widthOf, stepped, gives, bitsOf, wordFrom};
 ghost use Rattle.model.specs.Repeats.{repeats};
+ghost use Rattle.access.specs.Stored.{deviceFrom};
 ghost use Rattle.access.specs.Perform.{refusalOf, answerOf, storeAfter, resetAnswer, storeReset, retryOf};
 ghost use Rattle.access.specs.Runs.{registerOf, storedField, rowFields, allFields, reachedRows, isFitting, fittingRows, resetIn, resetsFrom, LawfulRows, Runs, RangedFields};
 
@@ -39,30 +40,32 @@ fn register_of(row: RegisterRow) -> Register
     Register { width, access }
 }
 
-// A field with its register.
-fn stored_field(row: RegisterRow, field: FieldAt) -> StoredField
-    ensures { λ r. ⌜ r ≡ storedField row field ⌝ }
+// A field with its register, and the number that it shows.
+fn stored_field(row: RegisterRow, field: FieldAt, slot: usize) -> View
+    ensures { λ r. ⌜ r ≡ storedField row field slot ⌝ }
 {
     let base = row.address;
     let register = register_of(row);
-    StoredField {
+    View {
         base,
         register,
         field,
+        slot,
     }
 }
 
-// The numbers of a register's fields, which stand first, after an access that is answered.
-fn step_run(fields: &[u64], numbers: &mut [u64], access: Access, row: RegisterRow)
-    requires { ⌜ Runs (widthOf access) (now fields) row × (row .count ≤ length (now numbers)) ⌝ }
-    ensures { λ _. ⌜ now (numbers .exit) ≡ stepped access (rowFields row (now (fields .entry))) (now (numbers .entry)) ⌝ }
+// The store after a register's fields have acted, in an access that is answered.
+fn step_run(fields: &[u64], store: &mut [u64], access: Access, row: RegisterRow)
+    requires { ⌜ Runs (widthOf access) (now fields) row × (row .first + row .count ≤ length (now store)) ⌝ }
+    ensures { λ _. ⌜ now (store .exit) ≡ stepped access (rowFields row (now (fields .entry))) (now (store .entry)) ⌝ }
 {
     let first = row.first as usize;
     let count = row.count as usize;
     let mut k: usize = 0;
     while k < count {
-        let field = stored_field(row, rows::field_row(fields, first + k));
-        numbers[k] = stored::number_after(access, field, numbers[k]);
+        let j = first + k;
+        let field = stored_field(row, rows::field_row(fields, j), j);
+        store[j] = stored::number_after(access, field, store[j]);
         k += 1;
     }
 }
@@ -76,30 +79,24 @@ fn step_rows(registers: &[u64], fields: &[u64], store: &mut [u64], access: Acces
     let mut i: usize = 0;
     while i < count {
         let row = rows::register_row(registers, i);
-        let first = row.first as usize;
-        step_run(fields, &mut store[first..], access, row);
+        step_run(fields, store, access, row);
         i += 1;
     }
 }
 
-// The word that a register's fields, whose numbers stand first, give to a read.
-fn word_of_run(
-    fields: &[u64],
-    numbers: &[u64],
-    address: Offset,
-    width: u64,
-    row: RegisterRow,
-) -> u64
-    requires { ⌜ Runs width (now fields) row × (row .count ≤ length (now numbers)) ⌝ }
-    ensures { λ r. ⌜ r ≡ number width (gives (rowFields row (now (fields .entry))) address width (bitsOf (now (numbers .entry)))) ⌝ }
+// The word that a register's fields give to a read.
+fn word_of_run(fields: &[u64], store: &[u64], address: Offset, width: u64, row: RegisterRow) -> u64
+    requires { ⌜ Runs width (now fields) row × (row .first + row .count ≤ length (now store)) ⌝ }
+    ensures { λ r. ⌜ r ≡ number width (gives (rowFields row (now (fields .entry))) address width (bitsOf (now (store .entry)))) ⌝ }
 {
     let first = row.first as usize;
     let count = row.count as usize;
     let mut word: u64 = 0;
     let mut k: usize = 0;
     while k < count {
-        let field = stored_field(row, rows::field_row(fields, first + k));
-        word = word | stored::word_of(address, width, field, numbers[k]);
+        let j = first + k;
+        let field = stored_field(row, rows::field_row(fields, j), j);
+        word = word | stored::word_of(address, width, field, store[j]);
         k += 1;
     }
     word
@@ -121,8 +118,7 @@ fn word_of_rows(
     let mut i: usize = 0;
     while i < count {
         let row = rows::register_row(registers, i);
-        let first = row.first as usize;
-        word = word | word_of_run(fields, &store[first..], address, width, row);
+        word = word | word_of_run(fields, store, address, width, row);
         i += 1;
     }
     word
@@ -210,7 +206,7 @@ fn first_refusal(
 // The word of an access that is answered: 0 for a write.
 fn word_of_access(registers: &[u64], fields: &[u64], store: &[u64], access: Access) -> u64
     requires { ⌜ LawfulRows (widthOf access) (now registers) (now fields) × (length (now fields) / 8 ≤ length (now store)) ⌝ }
-    ensures { λ r. ⌜ r ≡ wordFrom (allFields (now (registers .entry)) (now (fields .entry))) access (bitsOf (now (store .entry))) ⌝ }
+    ensures { λ r. ⌜ r ≡ wordFrom (deviceFrom (allFields (now (registers .entry)) (now (fields .entry)))) access (bitsOf (now (store .entry))) ⌝ }
 {
     match access {
         Access::Read { address, width } => word_of_rows(registers, fields, store, address, width),
@@ -346,7 +342,8 @@ fn run_repeats(fields: &[u64], access: Access, row: RegisterRow) -> bool
     let count = row.count as usize;
     let mut k: usize = 0;
     while k < count {
-        let field = stored_field(row, rows::field_row(fields, first + k));
+        let j = first + k;
+        let field = stored_field(row, rows::field_row(fields, j), j);
         if !stored::repeats_all(access, field) {
             return false;
         }

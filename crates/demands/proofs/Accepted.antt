@@ -15,23 +15,24 @@ use Rattle.rows.specs.Lawful.{lawful}
 use Rattle.compile.specs.declared.Compiled.the-variants.{Accepted}
 use Rattle.compile.specs.Compiled.{compiled, isShort, refused, answered, over, overAll, lentAfter}
 use Rattle.lawful.proofs.Lawful.{accepted-lawful, accepted-read}
-use Rattle.access.specs.Stored.{storedOf, storedFields}
+use Rattle.model.specs.Model.{fits}
+use Rattle.access.specs.Stored.{storedOf, storedFields, deviceIn}
 use Rattle.access.specs.Perform as access
 use Rattle.access.specs.Perform.{resetRefusal, storeReset}
 use Rattle.access.proofs.Stores.{stored-reset-fits}
-use Rattle.demands.specs.Demands.{RowsOf, firstRows, Fitting, Demand3}
+use Rattle.demands.specs.Demands.{RowsOf, firstRows, Demand3}
 use Rattle.demands.proofs.Rows.{demand-3}
 
 -- the store after a reset that is not refused fits
-pub reset-fits : (t : Tables) → lawful t ≡ true → (s : List ℕ) → access.isShort t s ≡ false → Fitting t (storeReset t s)
+pub reset-fits : (t : Tables) → lawful t ≡ true → (s : List ℕ) → access.isShort t s ≡ false → fits (deviceIn t .sizes) (storeReset t s) ≡ true
 unfolding storeReset resetRefusal
-reset-fits t e s room = rw (e, room) (stored-reset-fits t e (drop (length (storedFields t)) s))
+reset-fits t e s room = rw (e, room) (stored-reset-fits t e (drop (length (deviceIn t .sizes)) s))
 
 -- the stored fields of the rows of an accepted text are those of its map
 pub accepted-stored : (text : List ℕ) (m : Map) → compiled text ≡ fine m → storedFields (tablesOf m) ≡ storedOf m
 accepted-stored text m e = ap storedOf (accepted-read text m e)
 
-pub accepted-reset : (text : List ℕ) (m : Map) → compiled text ≡ fine m → (s : List ℕ) → access.isShort (tablesOf m) s ≡ false → Fitting (tablesOf m) (storeReset (tablesOf m) s)
+pub accepted-reset : (text : List ℕ) (m : Map) → compiled text ≡ fine m → (s : List ℕ) → access.isShort (tablesOf m) s ≡ false → fits (deviceIn (tablesOf m) .sizes) (storeReset (tablesOf m) s) ≡ true
 accepted-reset text m e s room = reset-fits (tablesOf m) (accepted-lawful text m e) s room
 
 pub accepted-demand-3 : (text : List ℕ) (m : Map) → compiled text ≡ fine m → Demand3 (tablesOf m)

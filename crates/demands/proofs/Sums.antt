@@ -50,7 +50,7 @@ use Rattle.model.specs.declared.Access.the-variants.{Read, Write}
 use Rattle.model.specs.declared.Answer.{Answer}
 use Rattle.model.specs.declared.Answer.the-variants.{Word}
 use Rattle.model.specs.Model.{fits, stepped, anyReached, gives}
-use Rattle.access.specs.Stored.{storedIn, storedAmong}
+use Rattle.access.specs.Stored.{storedIn, storedAmong, sizesOf}
 use Rattle.access.specs.Perform.{refusalOf, answerOf, storeAfter, storeAfterAll, answersOf}
 
 -- what is asked of a text: the addresses of its map's first registers; the bits of the fields of the first register, each high and low; or
@@ -116,5 +116,5 @@ sums =
     []
 
 pub worked : map (λ s. answer (s .question) (compiled (bytes (s .text)))) sums ≡ map (λ s. s .due) sums
-unfolding sums registersAmong isPair isWithin isBlank isLineEnd isLetter isNameByte isNumberByte isHexDigit isSpacedDigit run every sameBytes chosen entry keywordOf propertyOf markOf digitValue nextValue valueFrom fitting radixOf plainDigits spacedDigits widthOf sizedNumber sizedAt hexPrefixed hexNumber numberOf blanks nextFrom closes closing nameWord nameToken numberToken stringToken markToken tokenFrom tokenAt andThen mapped isName kindOf isKind isDefault isProperty isMark isEnd closedBy nameAt numberAt arrayRestAt arrayAt suffixAt setSuffix withSuffix bareAt instanceAt partedAt listedAt valueAt settingAt propertyWordAt propertyAt headerRestAt headerAt startsInstances instancesFrom instancesAt instanceStatementAt statementAt tailAt elementAt elementsAt definitionWith definitionAt definitionsFrom fileAt isAllowed isWidth isPowerTo settingAs settingOf ranged isSize isRange suffixRange isBarred instanceFault bytesOf sameName isAmong isReadable isWritable hasUnusableEffect some isResetWide isOutside isReadWritePair isOverlap overlaps spansParts onward unless lookup mayDefine mayHold isBadMap assigned judgeValue judgeKnown judgeProperty judgeInstances judgeUse declared judgeDefinition judgeElem judgeBody judgeFile judge assign nearest componentOf fieldAt breaks fieldsFrom registerFault closingFault judgeSetting closed raised multipleFrom commonMultiple powerFrom powerAbove larger strideOf spanOf modeStep stepOf laid laidFrom highestEnd largestAccess shapesFrom elementVisits childVisits visitsIn tooMany tooClose misplaced everyAccess isSharedLawfully overlapRegisters overlapsOne overlapping mapFault heron reading lighting firstBad wordsVerdict ruled titleOf stepsOf rowFields entriesOf compile.mapped compiled padded indices nameCells registerCells pathCells fieldCells fieldRun labelRun registerTable pathTable fieldTable labelTable follows allFollow rows.isName isPathCell areNames areZero isIndex areIndices areSame registerRow isPlaced isRun isPath fieldValues fieldRow isRanged isSoundField isResetForm isFieldRow areFieldRows isRegisterRow areRows areWhole lawful nameFrom stepsFrom reading-rows.fieldsFrom entriesFrom bit number writeAction readAction fits stepped anyReached gives storedIn storedAmong refusalOf answerOf storeAfter storeAfterAll answersOf
+unfolding sums registersAmong isPair isWithin isBlank isLineEnd isLetter isNameByte isNumberByte isHexDigit isSpacedDigit run every sameBytes chosen entry keywordOf propertyOf markOf digitValue nextValue valueFrom fitting radixOf plainDigits spacedDigits widthOf sizedNumber sizedAt hexPrefixed hexNumber numberOf blanks nextFrom closes closing nameWord nameToken numberToken stringToken markToken tokenFrom tokenAt andThen mapped isName kindOf isKind isDefault isProperty isMark isEnd closedBy nameAt numberAt arrayRestAt arrayAt suffixAt setSuffix withSuffix bareAt instanceAt partedAt listedAt valueAt settingAt propertyWordAt propertyAt headerRestAt headerAt startsInstances instancesFrom instancesAt instanceStatementAt statementAt tailAt elementAt elementsAt definitionWith definitionAt definitionsFrom fileAt isAllowed isWidth isPowerTo settingAs settingOf ranged isSize isRange suffixRange isBarred instanceFault bytesOf sameName isAmong isReadable isWritable hasUnusableEffect some isResetWide isOutside isReadWritePair isOverlap overlaps spansParts onward unless lookup mayDefine mayHold isBadMap assigned judgeValue judgeKnown judgeProperty judgeInstances judgeUse declared judgeDefinition judgeElem judgeBody judgeFile judge assign nearest componentOf fieldAt breaks fieldsFrom registerFault closingFault judgeSetting closed raised multipleFrom commonMultiple powerFrom powerAbove larger strideOf spanOf modeStep stepOf laid laidFrom highestEnd largestAccess shapesFrom elementVisits childVisits visitsIn tooMany tooClose misplaced everyAccess isSharedLawfully overlapRegisters overlapsOne overlapping mapFault heron reading lighting firstBad wordsVerdict ruled titleOf stepsOf rowFields entriesOf compile.mapped compiled padded indices nameCells registerCells pathCells fieldCells fieldRun labelRun registerTable pathTable fieldTable labelTable follows allFollow rows.isName isPathCell areNames areZero isIndex areIndices areSame registerRow isPlaced isRun isPath fieldValues fieldRow isRanged isSoundField isResetForm isFieldRow areFieldRows isRegisterRow areRows areWhole lawful nameFrom stepsFrom reading-rows.fieldsFrom entriesFrom bit number writeAction readAction fits stepped anyReached gives storedIn storedAmong sizesOf refusalOf answerOf storeAfter storeAfterAll answersOf
 worked = refl

@@ -9,47 +9,52 @@ use lib.Dec.{ltb}
 use lib.Pow.{pow-pos}
 use borrow.Author.Tests.{ltb-true, lt-ltb}
 use Rattle.chars.proofs.Laws.{and-left, and-right, and-both}
-use Rattle.model.specs.declared.StoredField.{StoredField}
-use Rattle.model.specs.Model.{size, fits, fieldIn}
+use Rattle.model.specs.Model.{fits, Words}
 use Rattle.model.proofs.Tests.{true-false}
 
-module _ (c : StoredField) (m : List StoredField) (v : ℕ) (s : List ℕ) where
-  pub fits-first : fits (c ∷ m) (v ∷ s) ≡ true → v < 2 ^ size c
+module _ (n : ℕ) (m : List ℕ) (v : ℕ) (s : List ℕ) where
+  pub fits-first : fits (n ∷ m) (v ∷ s) ≡ true → v < 2 ^ n
   unfolding fits
-  fits-first h = ltb-true v (2 ^ size c) (and-left (ltb v (2 ^ size c)) (fits m s) h)
+  fits-first h = ltb-true v (2 ^ n) (and-left (ltb v (2 ^ n)) (fits m s) h)
 
-  pub fits-rest : fits (c ∷ m) (v ∷ s) ≡ true → fits m s ≡ true
+  pub fits-rest : fits (n ∷ m) (v ∷ s) ≡ true → fits m s ≡ true
   unfolding fits
-  fits-rest h = and-right (ltb v (2 ^ size c)) (fits m s) h
+  fits-rest h = and-right (ltb v (2 ^ n)) (fits m s) h
 
-  pub fits-more : v < 2 ^ size c → fits m s ≡ true → fits (c ∷ m) (v ∷ s) ≡ true
+  pub fits-more : v < 2 ^ n → fits m s ≡ true → fits (n ∷ m) (v ∷ s) ≡ true
   unfolding fits
-  fits-more k h = and-both (ltb v (2 ^ size c)) (fits m s) (lt-ltb v (2 ^ size c) k) h
+  fits-more k h = and-both (ltb v (2 ^ n)) (fits m s) (lt-ltb v (2 ^ n) k) h
 
--- a store that fits has a number for each field
-pub fits-long : (m : List StoredField) (s : List ℕ) → fits m s ≡ true → length m ≤ length s
+-- a store that fits has all its numbers
+pub fits-long : (m : List ℕ) (s : List ℕ) → fits m s ≡ true → length m ≤ length s
 unfolding fits
 fits-long [] s h = zero-le
-fits-long (c ∷ m) [] h = absurd (true-false (sym h))
-fits-long (c ∷ m) (v ∷ s) h = suc-le-suc (fits-long m s (fits-rest c m v s h))
+fits-long (n ∷ m) [] h = absurd (true-false (sym h))
+fits-long (n ∷ m) (v ∷ s) h = suc-le-suc (fits-long m s (fits-rest n m v s h))
 
--- and each is below its field's bound
-pub fits-at : (m : List StoredField) (s : List ℕ) → fits m s ≡ true → (f : ℕ) → f < length m → getD s f 0 < 2 ^ size (fieldIn m f)
+-- and each is below its bound
+pub fits-at : (m : List ℕ) (s : List ℕ) → fits m s ≡ true → (f : ℕ) → f < length m → getD s f 0 < 2 ^ getD m f 0
 unfolding fits
 fits-at [] s h f k = absurd (not-suc-le-zero k)
-fits-at (c ∷ m) [] h f k = absurd (true-false (sym h))
-fits-at (c ∷ m) (v ∷ s) h zero k = fits-first c m v s h
-fits-at (c ∷ m) (v ∷ s) h (suc f) k = fits-at m s (fits-rest c m v s h) f (le-of-suc-le-suc k)
+fits-at (n ∷ m) [] h f k = absurd (true-false (sym h))
+fits-at (n ∷ m) (v ∷ s) h zero k = fits-first n m v s h
+fits-at (n ∷ m) (v ∷ s) h (suc f) k = fits-at m s (fits-rest n m v s h) f (le-of-suc-le-suc k)
 
-pub fits-made : (m : List StoredField) (s : List ℕ) → length m ≤ length s → ((f : ℕ) → f < length m → getD s f 0 < 2 ^ size (fieldIn m f)) → fits m s ≡ true
+pub fits-made : (m : List ℕ) (s : List ℕ) → length m ≤ length s → ((f : ℕ) → f < length m → getD s f 0 < 2 ^ getD m f 0) → fits m s ≡ true
 unfolding fits
 fits-made [] s l k = refl
-fits-made (c ∷ m) [] l k = absurd (not-suc-le-zero l)
-fits-made (c ∷ m) (v ∷ s) l k =
-    fits-more c m v s (k 0 (suc-le-suc zero-le)) (fits-made m s (le-of-suc-le-suc l) (λ f h. k (suc f) (suc-le-suc h)))
+fits-made (n ∷ m) [] l k = absurd (not-suc-le-zero l)
+fits-made (n ∷ m) (v ∷ s) l k =
+    fits-more n m v s (k 0 (suc-le-suc zero-le)) (fits-made m s (le-of-suc-le-suc l) (λ f h. k (suc f) (suc-le-suc h)))
 
--- a number 0 for each field fits
-pub zeros-fit : (m : List StoredField) → fits m (replicate (length m) 0) ≡ true
+-- a number 0 for each fits
+pub zeros-fit : (m : List ℕ) → fits m (replicate (length m) 0) ≡ true
 zeros-fit m =
     fits-made m (replicate (length m) 0) (le-of-eq (sym (length-replicate (length m) 0)))
-    (λ f h. subst (λ (v : ℕ). v < 2 ^ size (fieldIn m f)) (sym (getD-replicate (length m) f 0 0 h)) (pow-pos (size (fieldIn m f))))
+    (λ f h. subst (λ (v : ℕ). v < 2 ^ getD m f 0) (sym (getD-replicate (length m) f 0 0 h)) (pow-pos (getD m f 0)))
+
+pub zeros-words : (n : ℕ) → Words (replicate n 0)
+zeros-words n =
+    record {
+      each = λ f h. subst (λ (v : ℕ). v < 2 ^ 64) (sym (getD-replicate n f 0 0 (subst (λ (l : ℕ). f < l) (length-replicate n 0) h))) (pow-pos 64);
+    }

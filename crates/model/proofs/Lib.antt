@@ -1,6 +1,10 @@
 pub mod Tests
 pub mod Fits
+pub mod Under
 pub mod Demand
 pub mod Words
 pub mod Whole
+pub mod Composed
 pub mod Retry
+pub mod Suiting
+pub mod Joined

@@ -3,46 +3,30 @@ use mathlib.Core.Path.{_≡_, refl, sym, ap, ap₂, _∙_}
 use mathlib.Core.Bool.{true}
 use mathlib.Core.List.{List, [], _∷_, _++_}
 use Prim.Native.Nat.{ℕ}
-use lib.ListN.{length, drop}
-use Rattle.chars.proofs.Laws.{either}
 use Rattle.actions.specs.Actions.{apply}
-use Rattle.model.specs.declared.StoredField.{StoredField}
 use Rattle.model.specs.declared.Access.{Access}
 use Rattle.model.specs.declared.Answer.{Answer}
-use Rattle.model.specs.Model.{fits, stepped, answered, after, bitsOf}
+use Rattle.model.specs.Model.{Device, fits, after, bitsOf}
 use Rattle.model.specs.Lists.{table, run, answers, answersUnder, WholeList}
-use Rattle.model.proofs.Demand.{run-bit, run-fits}
+use Rattle.model.specs.Suited.{Suited}
+use Rattle.model.proofs.Demand.{run-bit, run-fits, run-past}
 use Rattle.model.proofs.Words.{answer-ext}
 
-run-snoc : (m : List StoredField) (xs : List Access) (x : Access) (s : List ℕ) → run m (xs ++ (x ∷ [])) s ≡ after m x (run m xs s)
+run-snoc : (d : Device) (xs : List Access) (x : Access) (s : List ℕ) → run d (xs ++ (x ∷ [])) s ≡ after d x (run d xs s)
 unfolding run
-run-snoc m [] x s = refl
-run-snoc m (y ∷ xs) x s = run-snoc m xs x (after m y s)
+run-snoc d [] x s = refl
+run-snoc d (y ∷ xs) x s = run-snoc d xs x (after d y s)
 
-answers-from : (m : List StoredField) (done xs : List Access) (s : List ℕ) → fits m s ≡ true → answers m xs (run m done s) ≡ answersUnder m done xs (bitsOf s)
-unfolding answers answersUnder
-answers-from m done [] s h = refl
-answers-from m done (x ∷ xs) s h =
-    ap₂ (λ (y : Answer) (l : List Answer). y ∷ l)
-    (answer-ext m x (bitsOf (run m done s)) (λ f i. apply (table m done f i) (bitsOf s f i)) (run-bit m done s h))
-    (ap (answers m xs) (sym (run-snoc m done x s)) ∙ answers-from m (done ++ (x ∷ [])) xs s h)
+module _ (d : Device) (ok : Suited d) where
+  answers-from : (done xs : List Access) (s : List ℕ) → fits (d .sizes) s ≡ true → answers d xs (run d done s) ≡ answersUnder d done xs (bitsOf s)
+  unfolding answers answersUnder
+  answers-from done [] s h = refl
+  answers-from done (x ∷ xs) s h =
+      ap₂ (λ (y : Answer) (l : List Answer). y ∷ l)
+      (answer-ext d ok x (bitsOf (run d done s)) (λ f i. apply (table d done f i) (bitsOf s f i)) (run-bit d ok done s h))
+      (ap (answers d xs) (sym (run-snoc d done x s)) ∙ answers-from (done ++ (x ∷ [])) xs s h)
 
--- ---- numbers past the last row
-
-stepped-past : (x : Access) (m : List StoredField) (s : List ℕ) → drop (length m) (stepped x m s) ≡ drop (length m) s
-unfolding stepped
-stepped-past x [] s = refl
-stepped-past x (c ∷ m) [] = refl
-stepped-past x (c ∷ m) (v ∷ s) = stepped-past x m s
-
-run-past : (m : List StoredField) (xs : List Access) (s : List ℕ) → drop (length m) (run m xs s) ≡ drop (length m) s
-unfolding run
-run-past m [] s = refl
-run-past m (x ∷ xs) s =
-    run-past m xs (after m x s) ∙ either (λ (l : List ℕ). drop (length m) l ≡ drop (length m) s) (answered m x) (λ _. stepped-past x m s) (λ _. refl)
-
--- ---- the claim
-
-pub whole-list : (m : List StoredField) (xs : List Access) (s : List ℕ) → fits m s ≡ true → WholeList m xs s (run m xs s) (answers m xs s)
-unfolding run
-whole-list m xs s h = record { fitting = run-fits m xs s h; bits = run-bit m xs s h; past = run-past m xs s; answering = answers-from m [] xs s h }
+  pub whole-list : (xs : List Access) (s : List ℕ) → fits (d .sizes) s ≡ true → WholeList d xs s (run d xs s) (answers d xs s)
+  unfolding run
+  whole-list xs s h =
+      record { fitting = run-fits d ok xs s h; bits = run-bit d ok xs s h; past = run-past d ok xs s h; answering = answers-from [] xs s h }

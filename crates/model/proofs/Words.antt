@@ -1,5 +1,5 @@
 -- The word of a read: which stored bits it depends on, and where each of them stands in it.
-use mathlib.Core.Path.{_≡_, refl, ap, ap₂, _∙_}
+use mathlib.Core.Path.{_≡_, refl, sym, ap, ap₂, _∙_, subst}
 use mathlib.Core.Bool.{Bool, true, false, _&&_, _||_}
 use mathlib.Core.List.{List, [], _∷_}
 use Prim.Native.Nat.{ℕ, zero, suc, _+_, _-_, _≤_, _<_, zero-le, suc-le-suc}
@@ -10,35 +10,36 @@ use lib.Dec.{leb, ltb}
 use borrow.Author.Tests.{leb-true, ltb-true, lt-ltb, le-leb}
 use Rattle.chars.proofs.Laws.{and-left, and-right, and-both, and-false, or-left, or-right}
 use Rattle.components.specs.declared.Offset.{Offset}
-use Rattle.components.specs.Fields.{isReadable}
 use Rattle.bits.proofs.BitLaws.{number-ext}
-use Rattle.model.specs.declared.StoredField.{StoredField}
+use Rattle.model.specs.declared.View.{View}
 use Rattle.model.specs.declared.Access.{Access}
 use Rattle.model.specs.declared.Access.the-variants.{Read, Write}
-use Rattle.model.specs.Model.{size, reaches, partLow, placeOf, fieldGives, gives, wordFrom, refusal, answerWith, answerFrom, fieldIn}
-use Rattle.model.specs.Lists.{Stored}
+use Rattle.components.specs.Fields.{isReadable}
+use Rattle.model.specs.Model.{Device, size, reaches, partLow, placeOf, fieldGives, gives, wordFrom, refusal, answerWith, answerFrom, viewIn}
+use Rattle.model.specs.Lists.{Stored, Shown}
 use Rattle.model.specs.Repeats.{readsBit}
+use Rattle.model.specs.Suited.{Suited}
 use Rattle.model.proofs.Tests.{and-cong}
 
 -- ---- the bits that a field gives
 
 -- the tests before the bit
-abbrev seen : Offset → ℕ → StoredField → ℕ → Bool
+abbrev seen : Offset → ℕ → View → ℕ → Bool
 seen a w c j = isReadable (c .field .values) && reaches a w c && leb (c .field .low .0) (partLow a c .0 + j) && leb (partLow a c .0 + j) (c .field .high .0)
 
 -- the bit of the field's number for bit j of the word
-abbrev fieldBit : Offset → StoredField → ℕ → ℕ
+abbrev fieldBit : Offset → View → ℕ → ℕ
 fieldBit a c j = partLow a c .0 + j - c .field .low .0
 
 -- and the word's bit for bit i of the field's number
-abbrev pub wordPlace : Offset → StoredField → ℕ → ℕ
+abbrev pub wordPlace : Offset → View → ℕ → ℕ
 wordPlace a c i = placeOf c i .0 - partLow a c .0
 
-record Taken (a : Offset) (w : ℕ) (c : StoredField) (j : ℕ) : Type 0 where
+record Taken (a : Offset) (w : ℕ) (c : View) (j : ℕ) : Type 0 where
   place : fieldBit a c j < size c
   reads : readsBit a w c (fieldBit a c j) ≡ true
 
-taken : (a : Offset) (w : ℕ) (c : StoredField) (j : ℕ) → j < w → seen a w c j ≡ true → Taken a w c j
+taken : (a : Offset) (w : ℕ) (c : View) (j : ℕ) → j < w → seen a w c j ≡ true → Taken a w c j
 taken a w c j h e =
     let p = partLow a c .0 in
     let low = c .field .low .0 in
@@ -59,19 +60,19 @@ taken a w c j h e =
           (and-both (q && leb p n) (ltb n (p + w)) (and-both q (leb p n) (and-right r q e2) (le-leb p n (omega arith))) (lt-ltb n (p + w) (omega arith)));
     }
 
-field-cong : (a : Offset) (w : ℕ) (c : StoredField) (b d : ℕ → Bool) (j : ℕ) → j < w
+field-cong : (a : Offset) (w : ℕ) (c : View) (b d : ℕ → Bool) (j : ℕ) → j < w
     → ((i : ℕ) → i < size c → readsBit a w c i ≡ true → b i ≡ d i)
     → fieldGives a w c b j ≡ fieldGives a w c d j
 field-cong a w c b d j h k =
     and-cong (seen a w c j) (b (fieldBit a c j)) (d (fieldBit a c j))
     (λ e. let p = taken a w c j h e in k (fieldBit a c j) (p .place) (p .reads))
 
-record Placed (a : Offset) (w : ℕ) (c : StoredField) (i : ℕ) : Type 0 where
+record Placed (a : Offset) (w : ℕ) (c : View) (i : ℕ) : Type 0 where
   inside : wordPlace a c i < w
   passes : seen a w c (wordPlace a c i) ≡ true
   back : fieldBit a c (wordPlace a c i) ≡ i
 
-placed : (a : Offset) (w : ℕ) (c : StoredField) (i : ℕ) → i < size c → readsBit a w c i ≡ true → Placed a w c i
+placed : (a : Offset) (w : ℕ) (c : View) (i : ℕ) → i < size c → readsBit a w c i ≡ true → Placed a w c i
 placed a w c i h e =
     let p = partLow a c .0 in
     let low = c .field .low .0 in
@@ -94,10 +95,10 @@ placed a w c i h e =
       back = omega arith;
     }
 
-pub word-inside : (a : Offset) (w : ℕ) (c : StoredField) (i : ℕ) → i < size c → readsBit a w c i ≡ true → wordPlace a c i < w
+pub word-inside : (a : Offset) (w : ℕ) (c : View) (i : ℕ) → i < size c → readsBit a w c i ≡ true → wordPlace a c i < w
 word-inside a w c i h e = placed a w c i h e .inside
 
-pub field-at : (a : Offset) (w : ℕ) (c : StoredField) (b : ℕ → Bool) (i : ℕ) → i < size c → readsBit a w c i ≡ true
+pub field-at : (a : Offset) (w : ℕ) (c : View) (b : ℕ → Bool) (i : ℕ) → i < size c → readsBit a w c i ≡ true
     → fieldGives a w c b (wordPlace a c i) ≡ b i
 field-at a w c b i h e =
     let p = placed a w c i h e in
@@ -105,41 +106,47 @@ field-at a w c b i h e =
 
 -- ---- the bits that a map gives
 
-pub gives-cong : (m : List StoredField) (a : Offset) (w : ℕ) (b d : ℕ → ℕ → Bool) (j : ℕ) → j < w
-    → ((f i : ℕ) → Stored m f i → readsBit a w (fieldIn m f) i ≡ true → b f i ≡ d f i)
-    → gives m a w b j ≡ gives m a w d j
+pub gives-cong : (cs : List View) (a : Offset) (w : ℕ) (b d : ℕ → ℕ → Bool) (j : ℕ) → j < w
+    → ((k i : ℕ) → Shown cs k i → readsBit a w (viewIn cs k) i ≡ true → b (viewIn cs k .slot) i ≡ d (viewIn cs k .slot) i)
+    → gives cs a w b j ≡ gives cs a w d j
 unfolding gives
 gives-cong [] a w b d j h k = refl
-gives-cong (c ∷ m) a w b d j h k =
+gives-cong (c ∷ cs) a w b d j h k =
     ap₂ (λ (x y : Bool). x || y)
-    (field-cong a w c (b 0) (d 0) j h (λ i p e. k 0 i (record { row = suc-le-suc zero-le; place = p }) e))
-    (gives-cong m a w (λ f. b (suc f)) (λ f. d (suc f)) j h
-    (λ f i p e. k (suc f) i (record { row = suc-le-suc (p .row); place = p .place }) e))
+    (field-cong a w c (b (c .slot)) (d (c .slot)) j h (λ i p e. k 0 i (record { row = suc-le-suc zero-le; place = p }) e))
+    (gives-cong cs a w b d j h (λ f i p e. k (suc f) i (record { row = suc-le-suc (p .row); place = p .place }) e))
 
--- where the map gives 0, so does each field
-pub gives-each : (m : List StoredField) (a : Offset) (w : ℕ) (b : ℕ → ℕ → Bool) (j f : ℕ) → f < length m
-    → gives m a w b j ≡ false → fieldGives a w (fieldIn m f) (b f) j ≡ false
+-- where the map gives 0, so does each view
+pub gives-each : (cs : List View) (a : Offset) (w : ℕ) (b : ℕ → ℕ → Bool) (j k : ℕ) → k < length cs
+    → gives cs a w b j ≡ false → fieldGives a w (viewIn cs k) (b (viewIn cs k .slot)) j ≡ false
 unfolding gives
-gives-each [] a w b j f h e = absurd (not-suc-le-zero h)
-gives-each (c ∷ m) a w b j zero h e = or-left (fieldGives a w c (b 0) j) (gives m a w (λ g. b (suc g)) j) e
-gives-each (c ∷ m) a w b j (suc f) h e =
-    gives-each m a w (λ g. b (suc g)) j f (le-of-suc-le-suc h) (or-right (fieldGives a w c (b 0) j) (gives m a w (λ g. b (suc g)) j) e)
+gives-each [] a w b j k h e = absurd (not-suc-le-zero h)
+gives-each (c ∷ cs) a w b j zero h e = or-left (fieldGives a w c (b (c .slot)) j) (gives cs a w b j) e
+gives-each (c ∷ cs) a w b j (suc k) h e =
+    gives-each cs a w b j k (le-of-suc-le-suc h) (or-right (fieldGives a w c (b (c .slot)) j) (gives cs a w b j) e)
 
-pub gives-none : (m : List StoredField) (a : Offset) (w j : ℕ) → gives m a w (λ f i. false) j ≡ false
+pub gives-none : (cs : List View) (a : Offset) (w j : ℕ) → gives cs a w (λ f i. false) j ≡ false
 unfolding gives
 gives-none [] a w j = refl
-gives-none (c ∷ m) a w j = ap₂ (λ (x y : Bool). x || y) (and-false (seen a w c j)) (gives-none m a w j)
+gives-none (c ∷ cs) a w j = ap₂ (λ (x y : Bool). x || y) (and-false (seen a w c j)) (gives-none cs a w j)
 
 -- ---- words and answers
 
 -- the word depends only on the bits that are read
-pub word-cong : (m : List StoredField) (a : Offset) (w : ℕ) (b d : ℕ → ℕ → Bool)
-    → ((f i : ℕ) → Stored m f i → readsBit a w (fieldIn m f) i ≡ true → b f i ≡ d f i)
-    → wordFrom m (Read a w) b ≡ wordFrom m (Read a w) d
-word-cong m a w b d k = number-ext w (gives m a w b) (gives m a w d) (λ j h. gives-cong m a w b d j h k)
+pub word-cong : (d : Device) (a : Offset) (w : ℕ) (b e : ℕ → ℕ → Bool)
+    → ((k i : ℕ) → Shown (d .views) k i → readsBit a w (viewIn (d .views) k) i ≡ true → b (viewIn (d .views) k .slot) i ≡ e (viewIn (d .views) k .slot) i)
+    → wordFrom d (Read a w) b ≡ wordFrom d (Read a w) e
+word-cong d a w b e k = number-ext w (gives (d .views) a w b) (gives (d .views) a w e) (λ j h. gives-cong (d .views) a w b e j h k)
+
+-- a bit of a view is a stored bit
+pub shown-stored : (d : Device) → Suited d → (k i : ℕ) → Shown (d .views) k i → Stored (d .sizes) (viewIn (d .views) k .slot) i
+shown-stored d ok k i p =
+    let q = ok .each k (p .row) in
+    record { row = q .row; place = subst (λ (n : ℕ). i < n) (sym (q .same)) (p .place) }
 
 -- and any answer on stored bits
-pub answer-ext : (m : List StoredField) (x : Access) (b d : ℕ → ℕ → Bool) → ((f i : ℕ) → Stored m f i → b f i ≡ d f i)
-    → answerFrom m x b ≡ answerFrom m x d
-answer-ext m (Read a w) b d h = ap (answerWith (refusal m (Read a w))) (word-cong m a w b d (λ f i p e. h f i p))
-answer-ext m (Write a w v) b d h = refl
+pub answer-ext : (d : Device) → Suited d → (x : Access) (b e : ℕ → ℕ → Bool) → ((f i : ℕ) → Stored (d .sizes) f i → b f i ≡ e f i)
+    → answerFrom d x b ≡ answerFrom d x e
+answer-ext d ok (Read a w) b e h =
+    ap (answerWith (refusal d (Read a w))) (word-cong d a w b e (λ k i p r. h (viewIn (d .views) k .slot) i (shown-stored d ok k i p)))
+answer-ext d ok (Write a w v) b e h = refl

@@ -1,3 +1,4 @@
 pub mod Model
 pub mod Lists
 pub mod Repeats
+pub mod Suited

@@ -1,18 +1,21 @@
 -- Accesses made again: which may be sent twice.
+use mathlib.Core.Path.{_≡_}
 use mathlib.Core.Bool.{Bool, true, false, not, _&&_, _||_}
 use mathlib.Core.List.{List, [], _∷_}
-use Prim.Native.Nat.{ℕ, zero, suc}
+use Prim.Native.Nat.{ℕ, zero, suc, _<_}
 use lib.Dec.{eqb}
+use lib.ListN.{length}
 use Rattle.settings.specs.Codes.{readCode, writeCode}
 use Rattle.settings.specs.declared.ReadEffect.the-variants as onread
 use Rattle.settings.specs.declared.WriteEffect.the-variants as onwrite
 use Rattle.components.specs.declared.FieldType.{FieldType}
 use Rattle.components.specs.declared.Offset.{Offset}
-use Rattle.components.specs.Fields.{isReadable}
-use Rattle.model.specs.declared.StoredField.{StoredField}
+use Rattle.model.specs.declared.View.{View}
 use Rattle.model.specs.declared.Access.{Access}
 use Rattle.model.specs.declared.Access.the-variants.{Read, Write}
-use Rattle.model.specs.Model.{size, reachesBit, writesBit, wordBit}
+use Rattle.components.specs.Fields.{isReadable}
+use Rattle.model.specs.Model.{Device, size, reachesBit, writesBit, wordBit, viewIn}
+use Rattle.model.specs.Lists.{Shown}
 
 -- a bit "inverted by 1" or "inverted by 0": `wot` inverts on 1, `wzt` on 0
 abbrev pub invertedBy : FieldType → Bool → Bool
@@ -21,15 +24,15 @@ invertedBy f false = eqb (f .onwrite) (writeCode onwrite.Wzt)
 
 -- a bit "that reading clears or sets"
 abbrev pub changedByReading : FieldType → Bool
-changedByReading f = eqb (f .onread) (readCode onread.Rclr) || eqb (f .onread) (readCode onread.Rset)
+changedByReading v = eqb (v .onread) (readCode onread.Rclr) || eqb (v .onread) (readCode onread.Rset)
 
--- a read answers with bit i of a field: "the readable reached bits"
-abbrev pub readsBit : Offset → ℕ → StoredField → ℕ → Bool
+-- a read answers with bit i of a view: "the readable reached bits"
+abbrev pub readsBit : Offset → ℕ → View → ℕ → Bool
 readsBit a w c i = isReadable (c .field .values) && reachesBit a w c i
 
--- bit i of a field lets an access be made again. A write: "its word has no 1 on a reached bit inverted by 1 and no 0 on a reached bit
+-- bit i of a view lets an access be made again. A write: "its word has no 1 on a reached bit inverted by 1 and no 0 on a reached bit
 -- inverted by 0". A read: "it reaches no readable bit that reading clears or sets"
-abbrev pub repeatsBit : Access → StoredField → ℕ → Bool
+abbrev pub repeatsBit : Access → View → ℕ → Bool
 repeatsBit (Read a w) c i = not (readsBit a w c i && changedByReading (c .field .values))
 repeatsBit (Write a w x) c i = not (writesBit a w c i && invertedBy (c .field .values) (wordBit a x c i))
 
@@ -38,7 +41,12 @@ unfoldable pub allBelow : ℕ → (ℕ → Bool) → Bool
 allBelow zero p = true
 allBelow (suc n) p = allBelow n p && p n
 
--- each stored bit lets an access be made again
-unfoldable pub repeats : List StoredField → Access → Bool
+-- each bit of each view lets an access be made again
+unfoldable pub repeats : List View → Access → Bool
 repeats [] x = true
-repeats (c ∷ m) x = allBelow (size c) (repeatsBit x c) && repeats m x
+repeats (c ∷ cs) x = allBelow (size c) (repeatsBit x c) && repeats cs x
+
+-- no bit of a number is written through two views at once: what an accepted text has by rule 21, and some lawful rows have not
+pub record Alone (d : Device) (a : Offset) (w : ℕ) : Type 0 where
+  pub alone : (j k i : ℕ) → j < length (d .views) → Shown (d .views) k i → viewIn (d .views) j .slot ≡ viewIn (d .views) k .slot
+      → writesBit a w (viewIn (d .views) j) i ≡ true → writesBit a w (viewIn (d .views) k) i ≡ true → j ≡ k

@@ -4,7 +4,7 @@ use mathlib.Core.Path.{_≡_}
 use Prim.Native.Nat.{ℕ}
 use Rattle.components.specs.declared.Offset.{Offset}
 use Rattle.actions.specs.declared.Action.{Action}
-use Rattle.model.specs.declared.StoredField.{StoredField}
+use Rattle.model.specs.declared.View.{View}
 use Rattle.model.specs.declared.Access.{Access}
 use Rattle.model.specs.declared.Access.the-variants.{Read, Write}
 use Rattle.model.specs.Model.{widthOf, wellFormed, bitAction}
@@ -15,14 +15,14 @@ module _ (x : Access) {y : Access} (e : x ≡ y) where
   pub formed-as : {r : Bool} → r ≡ wellFormed y → r ≡ wellFormed x
   formed-as f = rw e f
 
-  module _ (c : StoredField) (i : ℕ) where
+  module _ (c : View) (i : ℕ) where
     pub action-as : {r : Action} → r ≡ bitAction y c i → r ≡ bitAction x c i
     action-as f = rw e f
 
     pub repeats-as : {r : Bool} → r ≡ repeatsBit y c i → r ≡ repeatsBit x c i
     repeats-as f = rw e f
 
-module _ (x : Access) (c : StoredField) (u : Usable (widthOf x) c) {a : Offset} {w : ℕ} where
+module _ (x : Access) (c : View) (u : Usable (widthOf x) c) {a : Offset} {w : ℕ} where
   pub usable-read : x ≡ Read a w → Usable w c
   usable-read e = rw e at u
 

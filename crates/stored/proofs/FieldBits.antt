@@ -18,7 +18,7 @@ use Rattle.bits.proofs.BitLaws.{number-more}
 use Rattle.actions.specs.declared.Action.{Action}
 use Rattle.actions.specs.declared.Action.the-variants.{Kept}
 use Rattle.actions.specs.Actions.{apply, writeAction}
-use Rattle.model.specs.declared.StoredField.{StoredField}
+use Rattle.model.specs.declared.View.{View}
 use Rattle.model.specs.declared.Access.{Access}
 use Rattle.model.specs.Model.{addressOf, widthOf, size, reaches, partLow, bitAction, acted, numberAfter, fieldGives}
 use Rattle.model.specs.Repeats.{invertedBy}
@@ -41,7 +41,7 @@ module _ (v : FieldType) {one : Bool} {k : ℕ} where
   inverted-zero y e = rw (y, e)
 
 -- the number of the bits under their actions
-module _ (x : Access) (c : StoredField) (v : ℕ) where
+module _ (x : Access) (c : View) (v : ℕ) where
   abbrev pub actedBit : ℕ → Bool
   actedBit i = apply (bitAction x c i) (bit v i)
 
@@ -49,7 +49,7 @@ module _ (x : Access) (c : StoredField) (v : ℕ) where
       → r ≡ l + digit b * 2 ^ i → r ≡ number (i + 1) actedBit
   acted-more i {l} {r} {b = b} e f g h k = number-more actedBit i l r b e (h ∙ ap₂ apply f g) k
 
-  pub acted-all : (i n : ℕ) {l : ℕ} → l ≡ number i actedBit → n ≡ size c → i ≤ n → n ≤ i → l ≡ acted (bitAction x c) c v
+  pub acted-all : (i n : ℕ) {l : ℕ} → l ≡ number i actedBit → n ≡ size c → i ≤ n → n ≤ i → l ≡ acted (size c) (bitAction x c) v
   acted-all i n e f g h = let z : i ≡ size c = omega arith in rw (← z) e
 
   -- the register is reached, or not
@@ -60,11 +60,11 @@ module _ (x : Access) (c : StoredField) (v : ℕ) where
     pub after-kept : not r ≡ true → v ≡ numberAfter x c v
     after-kept y = rw (failed after-reached y)
 
-    pub after-acted : {n : ℕ} → not r ≡ false → n ≡ acted (bitAction x c) c v → n ≡ numberAfter x c v
+    pub after-acted : {n : ℕ} → not r ≡ false → n ≡ acted (size c) (bitAction x c) v → n ≡ numberAfter x c v
     after-acted y h = rw (passed after-reached y) h
 
 -- a bit of the word that a read answers
-module _ (a : Offset) (w : ℕ) (c : StoredField) (b : ℕ → Bool) (j : ℕ) {r : Bool} (e : r ≡ isReadable (c .field .values)) where
+module _ (a : Offset) (w : ℕ) (c : View) (b : ℕ → Bool) (j : ℕ) {r : Bool} (e : r ≡ isReadable (c .field .values)) where
   pub gives-closed : not r ≡ true → false ≡ fieldGives a w c b j
   gives-closed y = rw (failed e y)
 

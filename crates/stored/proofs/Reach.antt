@@ -10,7 +10,7 @@ use Rattle.components.specs.declared.BitPlace.{BitPlace}
 use Rattle.components.specs.declared.Offset.{Offset}
 use Rattle.components.specs.declared.Register.{Register}
 use Rattle.bits.specs.Bits.{bit}
-use Rattle.model.specs.declared.StoredField.{StoredField}
+use Rattle.model.specs.declared.View.{View}
 use Rattle.model.specs.Model.{reachesRegister, reaches, partLow, placeOf, reachesBit, wordBit}
 use Rattle.stored.proofs.Tests.{failed, passed}
 
@@ -31,13 +31,13 @@ module _ (a : Offset) (w : ℕ) (base : Offset) (r : Register) where
       at-part h = rw (eq-eqb (r .access) w p, le-leb (base .0) (a .0) q, lt-ltb (a .0 - base .0) (r .width / 8) h)
 
 -- what they say together
-pub record Reached (a : Offset) (w : ℕ) (c : StoredField) : Type 0 where
+pub record Reached (a : Offset) (w : ℕ) (c : View) : Type 0 where
   pub part : c .register .access ≡ w
   pub from : c .base .0 ≤ a .0
   pub inside : a .0 - c .base .0 < c .register .width / 8
   pub whole : (a .0 - c .base .0) % (w / 8) ≡ 0
 
-module _ (a : Offset) (w : ℕ) (c : StoredField) (e : reaches a w c ≡ true) where
+module _ (a : Offset) (w : ℕ) (c : View) (e : reaches a w c ≡ true) where
   pub reached : Reached a w c
   reached =
       let p = eqb (c .register .access) w in
@@ -60,16 +60,16 @@ module _ (a : Offset) (w : ℕ) (c : StoredField) (e : reaches a w c ≡ true) w
   part-below h = omega (arith, reached)
 
 -- the places as calls answer them
-module _ (a : Offset) (c : StoredField) {l : BitPlace} (f : l ≡ partLow a c) where
+module _ (a : Offset) (c : View) {l : BitPlace} (f : l ≡ partLow a c) where
   pub low-at : l .0 ≡ partLow a c .0
   low-at = ap (λ (b : BitPlace). b .0) f
 
-module _ (c : StoredField) (i : ℕ) {p : BitPlace} (g : p ≡ placeOf c i) where
+module _ (c : View) (i : ℕ) {p : BitPlace} (g : p ≡ placeOf c i) where
   place-at : p .0 ≡ placeOf c i .0
   place-at = ap (λ (b : BitPlace). b .0) g
 
 -- the tests of a bit
-module _ (a : Offset) (w : ℕ) (c : StoredField) (i : ℕ) {r : Bool} (e : r ≡ reaches a w c) where
+module _ (a : Offset) (w : ℕ) (c : View) (i : ℕ) {r : Bool} (e : r ≡ reaches a w c) where
   pub bit-unreached : not r ≡ true → false ≡ reachesBit a w c i
   bit-unreached y = rw (failed e y)
 
@@ -84,12 +84,12 @@ module _ (a : Offset) (w : ℕ) (c : StoredField) (i : ℕ) {r : Bool} (e : r �
         (passed e y, le-leb (partLow a c .0) (placeOf c i .0) (omega (arith, low-at a c f, place-at c i g)), low-at a c f, place-at c i g)
 
 -- what they say together
-pub record ReachedBit (a : Offset) (w : ℕ) (c : StoredField) (i : ℕ) : Type 0 where
+pub record ReachedBit (a : Offset) (w : ℕ) (c : View) (i : ℕ) : Type 0 where
   pub register : reaches a w c ≡ true
   pub above : partLow a c .0 ≤ placeOf c i .0
   pub below : placeOf c i .0 < partLow a c .0 + w
 
-module _ (a : Offset) (w : ℕ) (c : StoredField) (i : ℕ) (e : reachesBit a w c i ≡ true) where
+module _ (a : Offset) (w : ℕ) (c : View) (i : ℕ) (e : reachesBit a w c i ≡ true) where
   pub reached-bit : ReachedBit a w c i
   reached-bit =
       let p = reaches a w c in
@@ -112,6 +112,6 @@ module _ (a : Offset) (w : ℕ) (c : StoredField) (i : ℕ) (e : reachesBit a w 
     pub bit-inside : w ≤ 64 → p .0 - l .0 < 64
     bit-inside h = omega (arith, reached-bit, low-at a c f, place-at c i g)
 
-pub word-at : (a : Offset) (x : ℕ) (c : StoredField) (i : ℕ) {l p : BitPlace} {r : Bool} → l ≡ partLow a c → p ≡ placeOf c i → r ≡ bit x (p .0 - l .0)
+pub word-at : (a : Offset) (x : ℕ) (c : View) (i : ℕ) {l p : BitPlace} {r : Bool} → l ≡ partLow a c → p ≡ placeOf c i → r ≡ bit x (p .0 - l .0)
     → r ≡ wordBit a x c i
 word-at a x c i f g h = h ∙ rw (low-at a c f, place-at c i g)

@@ -1,8 +1,8 @@
 -- What the functions of one stored field ask of an access and of the field: lawful rows keep it.
 use Prim.Native.Nat.{ℕ, _<_, _≤_}
-use Rattle.model.specs.declared.StoredField.{StoredField}
+use Rattle.model.specs.declared.View.{View}
 
-pub record Usable (w : ℕ) (c : StoredField) : Type 0 where
+pub record Usable (w : ℕ) (c : View) : Type 0 where
   pub least : 8 ≤ w
   pub most : w ≤ 64
   pub register : c .register .width ≤ 64

@@ -5,7 +5,7 @@ use components::FieldType;
 use components::Offset;
 use components::Register;
 use model::Access;
-use model::StoredField;
+use model::View;
 use settings::ReadEffect;
 use settings::WriteEffect;
 ghost use mathlib.Core.Path.{_≡_};
@@ -85,7 +85,7 @@ pub fn reaches_register(address: Offset, width: u64, base: Offset, register: Reg
     distance % (width / 8) == 0
 }
 
-fn reaches_field(address: Offset, width: u64, field: StoredField) -> bool
+fn reaches_field(address: Offset, width: u64, field: View) -> bool
     requires { ⌜ 8 ≤ width ⌝ }
     ensures { λ r. ⌜ r ≡ reaches address width field ⌝ }
 {
@@ -95,7 +95,7 @@ fn reaches_field(address: Offset, width: u64, field: StoredField) -> bool
 }
 
 // The lowest bit of the part at an address that reaches the field's register: from bytes to bits.
-fn part_low(address: Offset, width: u64, field: StoredField) -> BitPlace
+fn part_low(address: Offset, width: u64, field: View) -> BitPlace
     requires { ⌜ (reaches address width field ≡ true) × (field .register .width ≤ 64) ⌝ }
     ensures { λ r. ⌜ (r ≡ partLow address field) × (r .0 < 64) ⌝ }
 {
@@ -103,7 +103,7 @@ fn part_low(address: Offset, width: u64, field: StoredField) -> BitPlace
     BitPlace((address.0 - base.0) * 8)
 }
 
-fn place_of(field: StoredField, i: u64) -> BitPlace
+fn place_of(field: View, i: u64) -> BitPlace
     requires { ⌜ (field .field .low .0 < 64) × (i < 64) ⌝ }
     ensures { λ r. ⌜ (r ≡ placeOf field i) × (r .0 < 128) ⌝ }
 {
@@ -112,7 +112,7 @@ fn place_of(field: StoredField, i: u64) -> BitPlace
     BitPlace(low.0 + i)
 }
 
-pub fn reaches_bit(address: Offset, width: u64, field: StoredField, i: u64) -> bool
+pub fn reaches_bit(address: Offset, width: u64, field: View, i: u64) -> bool
     requires { ⌜ Usable width field × (i < size field) ⌝ }
     ensures { λ r. ⌜ r ≡ reachesBit address width field i ⌝ }
 {
@@ -127,7 +127,7 @@ pub fn reaches_bit(address: Offset, width: u64, field: StoredField, i: u64) -> b
     place.0 < low.0 + width
 }
 
-fn read_bit_action(address: Offset, width: u64, field: StoredField, i: u64) -> Action
+fn read_bit_action(address: Offset, width: u64, field: View, i: u64) -> Action
     requires { ⌜ Usable width field × (i < size field) ⌝ }
     ensures { λ r. ⌜ r ≡ bitAction (Access.Read address width) field i ⌝ }
 {
@@ -139,7 +139,7 @@ fn read_bit_action(address: Offset, width: u64, field: StoredField, i: u64) -> A
     actions::read_action(values.onread)
 }
 
-fn writes_bit(address: Offset, width: u64, field: StoredField, i: u64) -> bool
+fn writes_bit(address: Offset, width: u64, field: View, i: u64) -> bool
     requires { ⌜ Usable width field × (i < size field) ⌝ }
     ensures { λ r. ⌜ r ≡ writesBit address width field i ⌝ }
 {
@@ -152,7 +152,7 @@ fn writes_bit(address: Offset, width: u64, field: StoredField, i: u64) -> bool
 }
 
 // The word's bit for a bit of the field that a write reaches.
-fn word_bit(address: Offset, width: u64, word: u64, field: StoredField, i: u64) -> bool
+fn word_bit(address: Offset, width: u64, word: u64, field: View, i: u64) -> bool
     requires { ⌜ Usable width field × (i < size field) × (reachesBit address width field i ≡ true) ⌝ }
     ensures { λ r. ⌜ r ≡ wordBit address word field i ⌝ }
 {
@@ -161,7 +161,7 @@ fn word_bit(address: Offset, width: u64, word: u64, field: StoredField, i: u64) 
     bits::bit_at(word, place.0 - low.0)
 }
 
-fn write_bit_action(address: Offset, width: u64, word: u64, field: StoredField, i: u64) -> Action
+fn write_bit_action(address: Offset, width: u64, word: u64, field: View, i: u64) -> Action
     requires { ⌜ Usable width field × (i < size field) ⌝ }
     ensures { λ r. ⌜ r ≡ bitAction (Access.Write address width word) field i ⌝ }
 {
@@ -175,7 +175,7 @@ fn write_bit_action(address: Offset, width: u64, word: u64, field: StoredField, 
 }
 
 // What an access does to a bit of the field.
-fn bit_action(access: Access, field: StoredField, i: u64) -> Action
+fn bit_action(access: Access, field: View, i: u64) -> Action
     requires { ⌜ Usable (widthOf access) field × (i < size field) ⌝ }
     ensures { λ r. ⌜ r ≡ bitAction access field i ⌝ }
 {
@@ -190,7 +190,7 @@ fn bit_action(access: Access, field: StoredField, i: u64) -> Action
 }
 
 // How many bits the field has.
-fn size_of(field: StoredField) -> u64
+fn size_of(field: View) -> u64
     requires { ⌜ (field .field .low .0 ≤ field .field .high .0) × (field .field .high .0 < 64) ⌝ }
     ensures { λ r. ⌜ (r ≡ size field) × (r ≤ 64) ⌝ }
 {
@@ -201,9 +201,9 @@ fn size_of(field: StoredField) -> u64
 }
 
 // The field's number, each bit under its action.
-fn acted_number(access: Access, field: StoredField, stored: u64) -> u64
+fn acted_number(access: Access, field: View, stored: u64) -> u64
     requires { ⌜ Usable (widthOf access) field ⌝ }
-    ensures { λ r. ⌜ r ≡ acted (bitAction access field) field stored ⌝ }
+    ensures { λ r. ⌜ r ≡ acted (size field) (bitAction access field) stored ⌝ }
 {
     let count = size_of(field);
     let mut lower: u64 = 0;
@@ -218,7 +218,7 @@ fn acted_number(access: Access, field: StoredField, stored: u64) -> u64
 }
 
 // The field's number after an access that is answered.
-pub fn number_after(access: Access, field: StoredField, stored: u64) -> u64
+pub fn number_after(access: Access, field: View, stored: u64) -> u64
     requires { ⌜ Usable (widthOf access) field ⌝ }
     ensures { λ r. ⌜ r ≡ numberAfter access field stored ⌝ }
 {
@@ -229,7 +229,7 @@ pub fn number_after(access: Access, field: StoredField, stored: u64) -> u64
 }
 
 // Bit j of the word that a read answers, as far as this field gives it.
-fn gives_bit(address: Offset, width: u64, field: StoredField, stored: u64, j: u64) -> bool
+fn gives_bit(address: Offset, width: u64, field: View, stored: u64, j: u64) -> bool
     requires { ⌜ Usable width field × (j < width) ⌝ }
     ensures { λ r. ⌜ r ≡ fieldGives address width field (bit stored) j ⌝ }
 {
@@ -255,7 +255,7 @@ fn gives_bit(address: Offset, width: u64, field: StoredField, stored: u64, j: u6
 }
 
 // The word that a read answers, as far as this field gives it.
-pub fn word_of(address: Offset, width: u64, field: StoredField, stored: u64) -> u64
+pub fn word_of(address: Offset, width: u64, field: View, stored: u64) -> u64
     requires { ⌜ Usable width field ⌝ }
     ensures { λ r. ⌜ r ≡ number width (fieldGives address width field (bit stored)) ⌝ }
 {
@@ -269,7 +269,7 @@ pub fn word_of(address: Offset, width: u64, field: StoredField, stored: u64) -> 
     lower
 }
 
-fn reads_bit(address: Offset, width: u64, field: StoredField, i: u64) -> bool
+fn reads_bit(address: Offset, width: u64, field: View, i: u64) -> bool
     requires { ⌜ Usable width field × (i < size field) ⌝ }
     ensures { λ r. ⌜ r ≡ readsBit address width field i ⌝ }
 {
@@ -301,7 +301,7 @@ fn is_inverted_by(values: FieldType, one: bool) -> bool
     values.onwrite == settings::write_code(WriteEffect::Wzt)
 }
 
-fn read_repeats_bit(address: Offset, width: u64, field: StoredField, i: u64) -> bool
+fn read_repeats_bit(address: Offset, width: u64, field: View, i: u64) -> bool
     requires { ⌜ Usable width field × (i < size field) ⌝ }
     ensures { λ r. ⌜ r ≡ repeatsBit (Access.Read address width) field i ⌝ }
 {
@@ -313,7 +313,7 @@ fn read_repeats_bit(address: Offset, width: u64, field: StoredField, i: u64) -> 
     !is_changed_by_reading(values)
 }
 
-fn write_repeats_bit(address: Offset, width: u64, word: u64, field: StoredField, i: u64) -> bool
+fn write_repeats_bit(address: Offset, width: u64, word: u64, field: View, i: u64) -> bool
     requires { ⌜ Usable width field × (i < size field) ⌝ }
     ensures { λ r. ⌜ r ≡ repeatsBit (Access.Write address width word) field i ⌝ }
 {
@@ -327,7 +327,7 @@ fn write_repeats_bit(address: Offset, width: u64, word: u64, field: StoredField,
 }
 
 // Whether a bit of the field lets an access be made again.
-fn repeats_bit(access: Access, field: StoredField, i: u64) -> bool
+fn repeats_bit(access: Access, field: View, i: u64) -> bool
     requires { ⌜ Usable (widthOf access) field × (i < size field) ⌝ }
     ensures { λ r. ⌜ r ≡ repeatsBit access field i ⌝ }
 {
@@ -342,7 +342,7 @@ fn repeats_bit(access: Access, field: StoredField, i: u64) -> bool
 }
 
 // Whether each bit of the field lets an access be made again.
-pub fn repeats_all(access: Access, field: StoredField) -> bool
+pub fn repeats_all(access: Access, field: View) -> bool
     requires { ⌜ Usable (widthOf access) field ⌝ }
     ensures { λ r. ⌜ r ≡ allBelow (size field) (repeatsBit access field) ⌝ }
 {

@@ -1,4 +1,4 @@
--- The numbers of the fields that are passed are those after the access; the others are as they were.
+-- The store is the one after the fields that are passed have acted.
 use borrow.Author.Needs.{needs}
 use Prim.Native.Nat.{_-_, _≤_}
 use mathlib.Core.Path.{_≡_}
@@ -10,10 +10,10 @@ use Rattle.access.proofs.step_run.Statement.{statement}
 use Rattle.access.proofs.step_run.Tie as tie
 
 abbrev Inv-loop : tie.InvT-loop
-Inv-loop fields numbers₀ x row first count k₀ numbers k = (k ≤ count) × (length numbers ≡ length numbers₀) × (numbers ≡ stepped x (runFields row fields first k) numbers₀)
+Inv-loop fields store₀ x row first count k₀ store k = (k ≤ count) × (length store ≡ length store₀) × (store ≡ stepped x (runFields row fields first k) store₀)
 
 abbrev μ-loop : tie.MeasureT-loop
-μ-loop fields numbers₀ x row first count k₀ numbers k = count - k
+μ-loop fields store₀ x row first count k₀ store k = count - k
 
 pub step-run-spec : {M : Type 1} → statement M
 step-run-spec =
@@ -34,6 +34,6 @@ step-run-spec =
     (λ c. search needs)
     (λ c.
     let p0 = c .before .before .before .before in
-    (search needs, search needs, step-on _ _ _ _ _ _ _ (p0 .before .loop .inv .2) (search needs) (c .before .before .before .field-row .ensures) (c .before .before .stored-field .ensures) (c .number-after .ensures)))
+    (search needs, search needs, step-on _ _ _ _ _ _ _ (p0 .before .loop .inv .2) (c .before .before .before .field-row .ensures) (c .before .before .stored-field .ensures) (c .number-after .ensures)))
     (λ c. search needs)
     (λ c. search (needs, step-loop)))

@@ -5,7 +5,7 @@ use mathlib.Core.Path.{_≡_, refl}
 use Rattle.bits.specs.Bits.{number}
 use Rattle.model.specs.Model.{gives, bitsOf}
 use Rattle.access.specs.Runs.{storedRows}
-use Rattle.access.proofs.Loops.{row-small, row-few, row-runs, row-below, row-left, joins-on, joins-loop}
+use Rattle.access.proofs.Loops.{row-small, row-runs, row-room, joins-on, joins-loop}
 use Rattle.access.proofs.word_of_rows.Statement.{statement}
 use Rattle.access.proofs.word_of_rows.Tie as tie
 
@@ -23,27 +23,14 @@ word-of-rows-spec =
     μ-loop
     (λ c. search (needs, joins-loop))
     (λ c κs. search row-small)
-    (λ c.
-    let p0 = c .before in
-    let p = p0 .before .before .before .before .before in
-    search (needs, row-few _ _ _ _ (p .pre .0) (p0 .loop-test .taken) (c .register-row .ensures)))
-    (λ c.
-    let p0 = c .before in
-    let p = p0 .before .before .before .before .before in
-    search (needs, row-below _ _ _ _ (p .pre .0) (p0 .loop-test .taken) (c .register-row .ensures) (p .args .store .now) (p .args .store .now) (p .pre .1) refl))
-    (λ c.
-    let p0 = c .before in
-    let p = p0 .before .before .before .before .before in
-    search (needs, row-below _ _ _ _ (p .pre .0) (p0 .loop-test .taken) (c .register-row .ensures) (p .args .store .now) (p .args .store .now) (p .pre .1) refl))
-    (λ c. search needs)
     (λ c κs.
+    let p0 = c .before in
+    let p = p0 .before .before .before .before .before in
+    (row-runs _ _ _ _ (p .pre .0) (p0 .loop-test .taken) (c .register-row .ensures), row-room _ _ _ _ (p .pre .0) (p0 .loop-test .taken) (c .register-row .ensures) (p .args .store .now) (p .args .store .now) (p .pre .1) refl))
+    (λ c. search needs)
+    (λ c. search needs)
+    (λ c.
     let p0 = c .before .before in
     let p = p0 .before .before .before .before .before in
-    (row-runs _ _ _ _ (p .pre .0) (p0 .loop-test .taken) (c .before .register-row .ensures), row-left _ _ _ _ (p .pre .0) (p0 .loop-test .taken) (c .before .register-row .ensures) (p .args .store .now) (p .args .store .now) (p .pre .1) refl))
-    (λ c. search needs)
-    (λ c. search needs)
-    (λ c.
-    let p0 = c .before .before .before in
-    let p = p0 .before .before .before .before .before in
-    (search needs, joins-on _ _ _ _ (p .args .store .now) _ _ (p0 .before .loop .inv .1) (p .pre .0) (p0 .loop-test .taken) (c .before .before .register-row .ensures) (c .word-of-run .ensures)))
+    (search needs, joins-on _ _ _ _ (p .args .store .now) _ _ (p0 .before .loop .inv .1) (c .before .register-row .ensures) (c .word-of-run .ensures)))
     (λ c. search (needs, joins-loop)))

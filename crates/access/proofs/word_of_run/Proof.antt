@@ -10,10 +10,10 @@ use Rattle.access.proofs.word_of_run.Statement.{statement}
 use Rattle.access.proofs.word_of_run.Tie as tie
 
 abbrev Inv-loop : tie.InvT-loop
-Inv-loop fields numbers address width row first count word₀ k₀ word k = (k ≤ count) × (word ≡ number width (gives (runFields row fields first k) address width (bitsOf numbers)))
+Inv-loop fields store address width row first count word₀ k₀ word k = (k ≤ count) × (word ≡ number width (gives (runFields row fields first k) address width (bitsOf store)))
 
 abbrev μ-loop : tie.MeasureT-loop
-μ-loop fields numbers address width row first count word₀ k₀ word k = count - k
+μ-loop fields store address width row first count word₀ k₀ word k = count - k
 
 pub word-of-run-spec : {M : Type 1} → statement M
 word-of-run-spec =
@@ -32,5 +32,5 @@ word-of-run-spec =
     (λ c. search needs)
     (λ c.
     let p0 = c .before .before .before .before in
-    (search needs, join-on _ _ _ _ _ (p0 .before .before .before .before .args .numbers .now) _ _ (p0 .before .loop .inv .1) (c .before .before .before .field-row .ensures) (c .before .before .stored-field .ensures) (c .word-of .ensures)))
+    (search needs, join-on _ _ _ _ _ (p0 .before .before .before .before .args .store .now) _ _ (p0 .before .loop .inv .1) (c .before .before .before .field-row .ensures) (c .before .before .stored-field .ensures) (c .word-of .ensures)))
     (λ c. search (needs, join-loop)))
