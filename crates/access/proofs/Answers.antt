@@ -17,14 +17,17 @@ use Rattle.rows.proofs.Registers.{width-bounds}
 use Rattle.model.specs.declared.View.{View}
 use Rattle.model.specs.declared.Access.{Access}
 use Rattle.model.specs.declared.Access.the-variants.{Read, Write}
+use Rattle.model.specs.declared.Answer.{Answer}
 use Rattle.model.specs.declared.Answer.the-variants as answer
-use Rattle.model.specs.Model.{fits, addressOf, widthOf, wellFormed, stepped, gives, bitsOf, wordFrom}
+use Rattle.model.specs.Model.{fits, addressOf, widthOf, wellFormed, stepped, gives, bitsOf, wordFrom, answerWith, accessNumbers, numbersWith}
 use Rattle.model.specs.Repeats.{repeats}
 use Rattle.stored.proofs.Tests.{failed, passed}
 use Rattle.access.specs.Stored.{storedFields, deviceFrom, deviceIn}
+use Rattle.access.specs.declared.Restored.{Restored}
 use Rattle.access.specs.declared.Restored.the-variants as restored
+use Rattle.access.specs.declared.Retried.{Retried}
 use Rattle.access.specs.declared.Retried.the-variants as retried
-use Rattle.access.specs.Perform.{isShort, isReached, refusalOf, answerOf, storeAfter, resetRefusal, resetAnswer, storeReset, retryRefusal, retryOf}
+use Rattle.access.specs.Perform.{isShort, isReached, refusalOf, answerOf, storeAfter, resetRefusal, restoredWith, resetAnswer, storeReset, resetNumbers, retryRefusal, retryWith, retryOf, retryNumbers}
 use Rattle.access.specs.Runs.{LawfulRows, RangedFields, allFields, reachedRows, fittingRows, resetsFrom}
 use Rattle.access.proofs.Facts.{rows-few, fields-few, all-fields}
 use Rattle.access.proofs.Fields.{stored-rows, stored-count, stored-reached}
@@ -218,3 +221,33 @@ module _ (t : Tables) (x : Access) {a : Bool} (e : a ≡ wellFormed x) where
         pub retry-unsafe : r ≡ false → retried.Unsafe ≡ retryOf t x
         unfolding retryOf retryRefusal
         retry-unsafe u = rw (passed e y, passed f z, passed (reached-at t x (passed f z) k l m) v, sym repeats-all ∙ u)
+
+-- ---- an answer and a store, with the answer in document 01's numbers
+
+module _ (t : Tables) where
+  pub access-told : (s : List ℕ) (x : Access) {r : Answer} {u : List ℕ} → r ≡ answerOf t s x → u ≡ storeAfter t s x
+      → (r ≡ answerOf t s x) × ((u ≡ storeAfter t s x) × (accessNumbers r ≡ numbersWith (refusalOf t s x) (wordFrom (deviceIn t) x (bitsOf s))))
+  unfolding answerOf
+  access-told s x e f = (e, (f, ap accessNumbers e ∙ by (refusalOf t s x)))
+    where
+      by : (n : ℕ) → accessNumbers (answerWith n (wordFrom (deviceIn t) x (bitsOf s))) ≡ numbersWith n (wordFrom (deviceIn t) x (bitsOf s))
+      by zero = refl
+      by (suc n) = refl
+
+  pub reset-told : (s : List ℕ) {r : Restored} {u : List ℕ} → r ≡ resetAnswer t s → u ≡ storeReset t s
+      → (r ≡ resetAnswer t s) × ((u ≡ storeReset t s) × (resetNumbers r ≡ numbersWith (resetRefusal t s) (length (deviceIn t .sizes))))
+  unfolding resetAnswer
+  reset-told s e f = (e, (f, ap resetNumbers e ∙ by (resetRefusal t s)))
+    where
+      by : (n : ℕ) → resetNumbers (restoredWith n (length (deviceIn t .sizes))) ≡ numbersWith n (length (deviceIn t .sizes))
+      by zero = refl
+      by (suc n) = refl
+
+  pub retry-told : (x : Access) {r : Retried} → r ≡ retryOf t x → (r ≡ retryOf t x) × (retryNumbers r ≡ numbersWith (retryRefusal t x) (if repeats (storedFields t) x then 1 else 0))
+  unfolding retryOf
+  retry-told x e = (e, ap retryNumbers e ∙ by (retryRefusal t x) (repeats (storedFields t) x))
+    where
+      by : (n : ℕ) (b : Bool) → retryNumbers (retryWith n b) ≡ numbersWith n (if b then 1 else 0)
+      by zero true = refl
+      by zero false = refl
+      by (suc n) b = refl

@@ -109,7 +109,7 @@ stored-at t e =
     ap fieldsAt (stored-rows t e) ∙ rows-at t (length (t .fields) / 8) 0 0 (length (t .registers) / 14) (whole-rows t e) ∙ ap (atRows (t .fields) 0) n
 
 -- as many numbers as field rows
-length-sizes : (m : List View) → length (sizesOf m) ≡ length m
+pub length-sizes : (m : List View) → length (sizesOf m) ≡ length m
 unfolding sizesOf
 length-sizes [] = refl
 length-sizes (c ∷ m) = ap suc (length-sizes m)

@@ -5,3 +5,4 @@ pub mod Suited
 pub mod Stores
 pub mod Loops
 pub mod Answers
+pub mod Calls

@@ -25,7 +25,7 @@ use Rattle.access.specs.Stored.{storedFields, sizesOf, deviceIn}
 use Rattle.access.specs.Runs.{runFields, rowFields, storedRows}
 use Rattle.access.proofs.Facts.{all-within}
 use Rattle.access.proofs.Joined.{length-run}
-use Rattle.access.proofs.Fields.{whole-rows, stored-rows, stored-count}
+use Rattle.access.proofs.Fields.{whole-rows, stored-rows, length-sizes, stored-count}
 
 -- a view that shows the number j, of the field row j
 record AtRow (fields : List ℕ) (j : ℕ) (c : View) : Type 0 where
@@ -77,11 +77,6 @@ unfolding sizesOf
 sizes-at [] k h = absurd (not-suc-le-zero h)
 sizes-at (c ∷ cs) zero h = refl
 sizes-at (c ∷ cs) (suc k) h = sizes-at cs k (le-of-suc-le-suc h)
-
-length-sizes : (cs : List View) → length (sizesOf cs) ≡ length cs
-unfolding sizesOf
-length-sizes [] = refl
-length-sizes (c ∷ cs) = ap suc (length-sizes cs)
 
 module _ (t : Tables) (e : lawful t ≡ true) where
   own-row : (k : ℕ) → k < length (storedFields t) → AtRow (t .fields) k (viewIn (storedFields t) k)

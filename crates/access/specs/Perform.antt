@@ -1,4 +1,5 @@
 -- Accesses, reset and retry on rows and a store: what each call answers, and the store afterwards.
+use mathlib.Core.Path.{_≡_}
 use mathlib.Core.Bool.{Bool, not}
 use mathlib.Core.List.{List, [], _∷_, _++_}
 use Prim.Native.Nat.{ℕ, zero, suc}
@@ -11,7 +12,8 @@ use Rattle.rows.specs.Lawful.{lawful}
 use Rattle.model.specs.declared.View.{View}
 use Rattle.model.specs.declared.Access.{Access}
 use Rattle.model.specs.declared.Answer.{Answer}
-use Rattle.model.specs.Model.{fits, addressOf, widthOf, wellFormed, anyReached, stepped, bitsOf, wordFrom, answerWith}
+use Rattle.model.specs.Model as model
+use Rattle.model.specs.Model.{fits, addressOf, widthOf, wellFormed, anyReached, stepped, refusal, bitsOf, wordFrom, answerWith}
 use Rattle.model.specs.Repeats.{repeats}
 use Rattle.access.specs.Stored.{storedFields, deviceIn}
 use Rattle.access.specs.declared.Restored.{Restored}
@@ -71,14 +73,10 @@ resetAnswer t s = restoredWith (resetRefusal t s) (length (deviceIn t .sizes))
 unfoldable pub storeReset : Tables → List ℕ → List ℕ
 storeReset t s = unlessRefused (resetRefusal t s) (resets (storedFields t) ++ drop (length (deviceIn t .sizes)) s) s
 
--- an answer in document 01's numbers: the refusal or 0, and the count, 0 where it is refused; the place is always 0
-abbrev pub refusalIn : Restored → ℕ
-refusalIn (restored.Refused n) = n
-refusalIn (restored.Written n) = 0
-
-abbrev pub countIn : Restored → ℕ
-countIn (restored.Refused n) = 0
-countIn (restored.Written n) = n
+-- what reset answers in document 01's numbers: the refusal or 0, its place, which is always 0, and the count, 0 where it is refused
+abbrev pub resetNumbers : Restored → List ℕ
+resetNumbers (restored.Refused n) = n ∷ 0 ∷ 0 ∷ []
+resetNumbers (restored.Written n) = 0 ∷ 0 ∷ n ∷ []
 
 -- what retry is refused with: no store is lent, so 23, 24 for the rows, 25; 0 for none
 unfoldable pub retryRefusal : Tables → Access → ℕ
@@ -93,8 +91,22 @@ abbrev pub retryWith : ℕ → Bool → Retried
 retryWith zero again = if again then retried.Safe else retried.Unsafe
 retryWith (suc n) again = retried.Refused (suc n)
 
+-- what retry answers in document 01's numbers: the refusal or 0, its place, which is always 0, and 1 where the access may be sent again
+abbrev pub retryNumbers : Retried → List ℕ
+retryNumbers (retried.Refused n) = n ∷ 0 ∷ 0 ∷ []
+retryNumbers retried.Safe = 0 ∷ 0 ∷ 1 ∷ []
+retryNumbers retried.Unsafe = 0 ∷ 0 ∷ 0 ∷ []
+
 unfoldable pub retryOf : Tables → Access → Retried
 retryOf t x = retryWith (retryRefusal t x) (repeats (storedFields t) x)
+
+-- "any starting store that fits", lent as a slice of 64-bit numbers
+abbrev pub Fitting : Tables → List ℕ → Type 0
+Fitting t s = model.Fitting (deviceIn t .sizes) s
+
+-- an access that is answered
+abbrev pub Answered : Tables → Access → Type 0
+Answered t x = refusal (deviceIn t) x ≡ 0
 
 -- a list of accesses: each gets the store that the last one left
 unfoldable pub storeAfterAll : Tables → List Access → List ℕ → List ℕ

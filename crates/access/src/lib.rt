@@ -12,10 +12,11 @@ ghost use Prim.Native.Nat.{_+_, _/_, _≤_, _<_};
 ghost use lib.ListN.{length, drop};
 ghost use Rattle.bits.specs.Bits.{number};
 ghost use Rattle.rows.specs.Rows.{tables};
-ghost use Rattle.model.specs.Model.{widthOf, stepped, gives, bitsOf, wordFrom};
+ghost use Rattle.chars.specs.Choice.{if_then_else_};
+ghost use Rattle.model.specs.Model.{widthOf, stepped, gives, bitsOf, wordFrom, accessNumbers, numbersWith};
 ghost use Rattle.model.specs.Repeats.{repeats};
-ghost use Rattle.access.specs.Stored.{deviceFrom};
-ghost use Rattle.access.specs.Perform.{refusalOf, answerOf, storeAfter, resetAnswer, storeReset, retryOf};
+ghost use Rattle.access.specs.Stored.{storedFields, deviceFrom, deviceIn};
+ghost use Rattle.access.specs.Perform.{refusalOf, answerOf, storeAfter, resetRefusal, resetAnswer, storeReset, resetNumbers, retryRefusal, retryOf, retryNumbers};
 ghost use Rattle.access.specs.Runs.{registerOf, storedField, rowFields, allFields, reachedRows, isFitting, fittingRows, resetIn, resetsFrom, LawfulRows, Runs, RangedFields};
 
 // What reset answers: a refusal's number, or how many numbers it wrote.
@@ -229,6 +230,7 @@ pub fn perform(
 ) -> Answer
     ensures answer { λ r. ⌜ r ≡ answerOf (tables (now (registers .entry)) (now (paths .entry)) (now (fields .entry)) (now (labels .entry))) (now (store .entry)) access ⌝ }
     ensures stored { λ _. ⌜ now (store .exit) ≡ storeAfter (tables (now (registers .entry)) (now (paths .entry)) (now (fields .entry)) (now (labels .entry))) (now (store .entry)) access ⌝ }
+    ensures numbers { λ r. ⌜ accessNumbers r ≡ numbersWith (refusalOf (tables (now (registers .entry)) (now (paths .entry)) (now (fields .entry)) (now (labels .entry))) (now (store .entry)) access) (wordFrom (deviceIn (tables (now (registers .entry)) (now (paths .entry)) (now (fields .entry)) (now (labels .entry)))) access (bitsOf (now (store .entry)))) ⌝ }
 {
     let refusal = first_refusal(registers, paths, fields, labels, store, access);
     if refusal != 0 {
@@ -251,6 +253,7 @@ pub fn read(
 ) -> Answer
     ensures answer { λ r. ⌜ r ≡ answerOf (tables (now (registers .entry)) (now (paths .entry)) (now (fields .entry)) (now (labels .entry))) (now (store .entry)) (Access.Read address width) ⌝ }
     ensures stored { λ _. ⌜ now (store .exit) ≡ storeAfter (tables (now (registers .entry)) (now (paths .entry)) (now (fields .entry)) (now (labels .entry))) (now (store .entry)) (Access.Read address width) ⌝ }
+    ensures numbers { λ r. ⌜ accessNumbers r ≡ numbersWith (refusalOf (tables (now (registers .entry)) (now (paths .entry)) (now (fields .entry)) (now (labels .entry))) (now (store .entry)) (Access.Read address width)) (wordFrom (deviceIn (tables (now (registers .entry)) (now (paths .entry)) (now (fields .entry)) (now (labels .entry)))) (Access.Read address width) (bitsOf (now (store .entry)))) ⌝ }
 {
     perform(
         registers,
@@ -275,6 +278,7 @@ pub fn write(
 ) -> Answer
     ensures answer { λ r. ⌜ r ≡ answerOf (tables (now (registers .entry)) (now (paths .entry)) (now (fields .entry)) (now (labels .entry))) (now (store .entry)) (Access.Write address width word) ⌝ }
     ensures stored { λ _. ⌜ now (store .exit) ≡ storeAfter (tables (now (registers .entry)) (now (paths .entry)) (now (fields .entry)) (now (labels .entry))) (now (store .entry)) (Access.Write address width word) ⌝ }
+    ensures numbers { λ r. ⌜ accessNumbers r ≡ numbersWith (refusalOf (tables (now (registers .entry)) (now (paths .entry)) (now (fields .entry)) (now (labels .entry))) (now (store .entry)) (Access.Write address width word)) (wordFrom (deviceIn (tables (now (registers .entry)) (now (paths .entry)) (now (fields .entry)) (now (labels .entry)))) (Access.Write address width word) (bitsOf (now (store .entry)))) ⌝ }
 {
     perform(
         registers,
@@ -321,6 +325,7 @@ pub fn reset(
 ) -> Restored
     ensures answer { λ r. ⌜ r ≡ resetAnswer (tables (now (registers .entry)) (now (paths .entry)) (now (fields .entry)) (now (labels .entry))) (now (store .entry)) ⌝ }
     ensures stored { λ _. ⌜ now (store .exit) ≡ storeReset (tables (now (registers .entry)) (now (paths .entry)) (now (fields .entry)) (now (labels .entry))) (now (store .entry)) ⌝ }
+    ensures numbers { λ r. ⌜ resetNumbers r ≡ numbersWith (resetRefusal (tables (now (registers .entry)) (now (paths .entry)) (now (fields .entry)) (now (labels .entry))) (now (store .entry))) (length (deviceIn (tables (now (registers .entry)) (now (paths .entry)) (now (fields .entry)) (now (labels .entry))) .sizes)) ⌝ }
 {
     if !rows::are_lawful(registers, paths, fields, labels) {
         return Restored::Refused(24);
@@ -376,7 +381,8 @@ pub fn retry(
     labels: &[u8],
     access: Access,
 ) -> Retried
-    ensures { λ r. ⌜ r ≡ retryOf (tables (now (registers .entry)) (now (paths .entry)) (now (fields .entry)) (now (labels .entry))) access ⌝ }
+    ensures answer { λ r. ⌜ r ≡ retryOf (tables (now (registers .entry)) (now (paths .entry)) (now (fields .entry)) (now (labels .entry))) access ⌝ }
+    ensures numbers { λ r. ⌜ retryNumbers r ≡ numbersWith (retryRefusal (tables (now (registers .entry)) (now (paths .entry)) (now (fields .entry)) (now (labels .entry))) access) (if repeats (storedFields (tables (now (registers .entry)) (now (paths .entry)) (now (fields .entry)) (now (labels .entry)))) access then 1 else 0) ⌝ }
 {
     if !stored::is_well_formed(access) {
         return Retried::Refused(23);

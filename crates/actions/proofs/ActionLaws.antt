@@ -98,16 +98,8 @@ pub zero-inverts : writeAction (writeCode onwrite.Wzt) false ≡ Inverted
 unfolding writeAction
 zero-inverts = refl
 
--- ---- the reads that disturb
+-- ---- the reads that do not disturb
 
 pub read-keeps : (code : ℕ) → (code ≡ readCode onread.Rclr → ⊥) → (code ≡ readCode onread.Rset → ⊥) → readAction code ≡ Kept
 unfolding readAction
 read-keeps code h k = simp (ne-eqb _ _ h, ne-eqb _ _ k)
-
-pub read-clears : readAction (readCode onread.Rclr) ≡ Cleared
-unfolding readAction
-read-clears = refl
-
-pub read-sets : readAction (readCode onread.Rset) ≡ Set
-unfolding readAction
-read-sets = refl

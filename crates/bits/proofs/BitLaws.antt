@@ -1,23 +1,22 @@
 -- The laws of bits, once over the width. Assumes nothing.
 use mathlib.Core.Path.{_≡_, refl, sym, ap, ap₂, _∙_, subst}
-use mathlib.Core.Bool.{Bool, true, false, not, _&&_, _||_}
-use Prim.Native.Nat.{ℕ, zero, suc, _+_, _-_, _*_, _/_, _%_, _^_, _≤_, _<_, min, max}
-use native.Mathlib.Nat.{not-suc-le-zero, zero-add, mul-assoc, add-mul-div-right, add-mul-mod-self-right, mod-eq-of-lt, div-eq-of-lt, mod-lt, zero-lt-suc, pow-suc, zero-min, min-zero, suc-min-suc, zero-max, max-zero, suc-max-suc, mod-one, lt-of-lt-of-le, zero-div, le-div-iff-mul-le}
+use mathlib.Core.Bool.{Bool, true, false, not, _||_}
+use Prim.Native.Nat.{ℕ, zero, suc, _+_, _-_, _*_, _/_, _%_, _^_, _<_, max}
+use native.Mathlib.Nat.{not-suc-le-zero, zero-add, mul-assoc, add-mul-div-right, add-mul-mod-self-right, mod-eq-of-lt, div-eq-of-lt, mod-lt, zero-lt-suc, pow-suc, zero-max, max-zero, suc-max-suc, mod-one}
 use native.Mathlib.Omega.{arith}
 use native.Mathlib.Numerals.{add-one, one-add}
 use native.Mathlib.Decide.{decLt}
 use lib.Arith.{digits-mod}
-use lib.Dec.{eqb, ltb, eqb·suc-zero}
-use borrow.Author.Tests.{eq-eqb, ne-eqb, lt-ltb, le-ltb}
-use lib.Pow.{pow-pos, pow-mono, pow-add, mod-pow-add, shr-shr}
-use lib.Bits.{bitAnd, bitOr, bitXor, differ, and-shr, or-shr, xor-shr, and-step, or-step, xor-step, or-lt}
+use lib.Dec.{eqb, eqb·suc-zero}
+use lib.Pow.{pow-pos, pow-add, mod-pow-add}
+use lib.Bits.{bitOr, or-shr, or-step, or-lt}
 use Rattle.bits.specs.Bits.{nonzero, digit, bit, number}
 
-pub nonzero-digit : (b : Bool) → nonzero (digit b) ≡ b
+nonzero-digit : (b : Bool) → nonzero (digit b) ≡ b
 nonzero-digit true = refl
 nonzero-digit false = refl
 
-pub digit-nonzero : (x : ℕ) → x < 2 → digit (nonzero x) ≡ x
+digit-nonzero : (x : ℕ) → x < 2 → digit (nonzero x) ≡ x
 digit-nonzero zero h = refl
 digit-nonzero (suc zero) h = refl
 digit-nonzero (suc (suc x)) h = absurd (omega arith)
@@ -27,7 +26,7 @@ pub nonzero-test : (x : ℕ) → not (eqb x 0) ≡ nonzero x
 nonzero-test zero = refl
 nonzero-test (suc x) = ap not (eqb·suc-zero x)
 
-pub digit-lt : (b : Bool) → digit b < 2
+digit-lt : (b : Bool) → digit b < 2
 digit-lt true = omega arith
 digit-lt false = omega arith
 
@@ -88,7 +87,7 @@ bit-digit : (n v : ℕ) → digit (bit v n) ≡ v / 2 ^ n % 2
 unfolding bit
 bit-digit n v = digit-nonzero (v / 2 ^ n % 2) (mod-lt (v / 2 ^ n) (zero-lt-suc 1))
 
-pub number-mod : (n v : ℕ) → number n (bit v) ≡ v % 2 ^ n
+number-mod : (n v : ℕ) → number n (bit v) ≡ v % 2 ^ n
 unfolding number
 number-mod zero v = sym (mod-one v)
 number-mod (suc n) v =
@@ -103,57 +102,20 @@ pub number-bit : (n v : ℕ) → v < 2 ^ n → number n (bit v) ≡ v
 number-bit n v h = number-mod n v ∙ mod-eq-of-lt h
 
 -- two numbers below 2 ^ n with the same bits are equal
-pub bit-ext : (n a b : ℕ) → a < 2 ^ n → b < 2 ^ n → ((i : ℕ) → i < n → bit a i ≡ bit b i) → a ≡ b
+bit-ext : (n a b : ℕ) → a < 2 ^ n → b < 2 ^ n → ((i : ℕ) → i < n → bit a i ≡ bit b i) → a ≡ b
 bit-ext n a b ha hb h = sym (number-bit n a ha) ∙ number-ext n (bit a) (bit b) h ∙ number-bit n b hb
 
-pub bit-above : (n v i : ℕ) → v < 2 ^ n → n ≤ i → bit v i ≡ false
-unfolding bit
-bit-above n v i h k = ap (λ (x : ℕ). nonzero (x % 2)) (div-eq-of-lt (lt-of-lt-of-le h (pow-mono k)))
-
-pub bit-zero : (i : ℕ) → bit 0 i ≡ false
-unfolding bit
-bit-zero i = ap (λ (x : ℕ). nonzero (x % 2)) (zero-div (2 ^ i))
-
-pub bit-shr : (v k i : ℕ) → bit (v / 2 ^ k) i ≡ bit v (k + i)
-unfolding bit
-bit-shr v k i = ap (λ (x : ℕ). nonzero (x % 2)) (shr-shr v k i)
-
--- ---- the operations on words, bit by bit
-
-nonzero-min : (x y : ℕ) → nonzero (min x y) ≡ nonzero x && nonzero y
-nonzero-min zero y = ap nonzero (zero-min y)
-nonzero-min (suc x) zero = ap nonzero (min-zero (suc x))
-nonzero-min (suc x) (suc y) = ap nonzero (suc-min-suc x y)
+-- ---- words joined by or, bit by bit
 
 nonzero-max : (x y : ℕ) → nonzero (max x y) ≡ nonzero x || nonzero y
 nonzero-max zero y = ap nonzero (zero-max y)
 nonzero-max (suc x) zero = ap nonzero (max-zero (suc x))
 nonzero-max (suc x) (suc y) = ap nonzero (suc-max-suc x y)
 
-abbrev pub differs : Bool → Bool → Bool
-differs true b = not b
-differs false b = b
-
-nonzero-differ : (x y : ℕ) → x < 2 → y < 2 → nonzero (differ x y) ≡ differs (nonzero x) (nonzero y)
-nonzero-differ zero y hx hy = refl
-nonzero-differ (suc zero) zero hx hy = refl
-nonzero-differ (suc zero) (suc zero) hx hy = refl
-nonzero-differ (suc zero) (suc (suc y)) hx hy = absurd (omega arith)
-nonzero-differ (suc (suc x)) y hx hy = absurd (omega arith)
-
 low-two : (x : ℕ) → x % 2 < 2
 low-two x = mod-lt x (zero-lt-suc 1)
 
-pub bit-and : (a b i : ℕ) → bit (bitAnd a b) i ≡ bit a i && bit b i
-unfolding bit
-bit-and a b i =
-    let p = a / 2 ^ i in
-    let q = b / 2 ^ i in
-    ap (λ (x : ℕ). nonzero (x % 2)) (and-shr a b i ∙ and-step p q)
-    ∙ ap nonzero (digits-mod (bitAnd (p / 2) (q / 2)) (omega (arith, low-two p, low-two q)))
-    ∙ nonzero-min (p % 2) (q % 2)
-
-pub bit-or : (a b i : ℕ) → bit (bitOr a b) i ≡ bit a i || bit b i
+bit-or : (a b i : ℕ) → bit (bitOr a b) i ≡ bit a i || bit b i
 unfolding bit
 bit-or a b i =
     let p = a / 2 ^ i in
@@ -162,40 +124,6 @@ bit-or a b i =
     ∙ ap nonzero (digits-mod (bitOr (p / 2) (q / 2)) (omega (arith, low-two p, low-two q)))
     ∙ nonzero-max (p % 2) (q % 2)
 
-differ-lt : (x y : ℕ) → x < 2 → y < 2 → differ x y < 2
-differ-lt zero y hx hy = hy
-differ-lt (suc zero) zero hx hy = hx
-differ-lt (suc zero) (suc zero) hx hy = omega arith
-differ-lt (suc zero) (suc (suc y)) hx hy = absurd (omega arith)
-differ-lt (suc (suc x)) y hx hy = absurd (omega arith)
-
-pub bit-xor : (a b i : ℕ) → bit (bitXor a b) i ≡ differs (bit a i) (bit b i)
-unfolding bit
-bit-xor a b i =
-    let p = a / 2 ^ i in
-    let q = b / 2 ^ i in
-    ap (λ (x : ℕ). nonzero (x % 2)) (xor-shr a b i ∙ xor-step p q)
-    ∙ ap nonzero (digits-mod (bitXor (p / 2) (q / 2)) (differ-lt (p % 2) (q % 2) (low-two p) (low-two q)))
-    ∙ nonzero-differ (p % 2) (q % 2) (low-two p) (low-two q)
-
--- `!m` of a word of n bits, which is `(2 ^ n - 1) - m`
-number-not : (n : ℕ) (f : ℕ → Bool) → suc (number n f + number n (λ i. not (f i))) ≡ 2 ^ n
-unfolding number
-number-not zero f = refl
-number-not (suc n) f = go (f n) (number-not n f)
-  where
-    go : (b : Bool) → suc (number n f + number n (λ i. not (f i))) ≡ 2 ^ n
-        → suc ((number n f + digit b * 2 ^ n) + (number n (λ i. not (f i)) + digit (not b) * 2 ^ n)) ≡ 2 ^ suc n
-    go true h = omega (arith, pow-suc 2 n)
-    go false h = omega (arith, pow-suc 2 n)
-
-pub not-number : (n m : ℕ) → m < 2 ^ n → (2 ^ n - 1) - m ≡ number n (λ i. not (bit m i))
-not-number n m h = omega (arith, number-not n (bit m), number-bit n m h)
-
-pub bit-not : (n m i : ℕ) → m < 2 ^ n → i < n → bit ((2 ^ n - 1) - m) i ≡ not (bit m i)
-bit-not n m i h k = ap (λ (x : ℕ). bit x i) (not-number n m h) ∙ bit-number n (λ j. not (bit m j)) i k
-
--- the words joined by or
 pub or-number : (n : ℕ) (f g : ℕ → Bool) → bitOr (number n f) (number n g) ≡ number n (λ i. f i || g i)
 or-number n f g =
     bit-ext n (bitOr (number n f) (number n g)) (number n (λ i. f i || g i))
@@ -211,17 +139,6 @@ number-more f i acc r b p q e =
 
 pub number-below : (f : ℕ → Bool) (i acc : ℕ) → acc ≡ number i f → acc < 2 ^ i
 number-below f i acc p = subst (λ (x : ℕ). x < 2 ^ i) (sym p) (number-lt i f)
-
--- nothing is left above n bits exactly when the number fits them
-pub shifted-out : (v n : ℕ) → eqb (v / 2 ^ n) 0 ≡ ltb v (2 ^ n)
-shifted-out v n = go (decLt v (2 ^ n))
-  where
-    go : Dec (v < 2 ^ n) → eqb (v / 2 ^ n) 0 ≡ ltb v (2 ^ n)
-    go (yes h) = eq-eqb (v / 2 ^ n) 0 (div-eq-of-lt h) ∙ sym (lt-ltb v (2 ^ n) h)
-    go (no h) =
-        let k : 2 ^ n ≤ v = omega arith in
-        let one : 1 ≤ v / 2 ^ n = le-div-iff-mul-le (pow-pos n) .1 (omega arith) in
-        ne-eqb (v / 2 ^ n) 0 (λ e. let z : _≡_ {A = ℕ} 0 1 = absurd (omega arith) in omega arith) ∙ sym (le-ltb v (2 ^ n) k)
 
 pub number-zero : (f : ℕ → Bool) → 0 ≡ number 0 f
 unfolding number

@@ -78,7 +78,7 @@ pub fn is_name_byte(b: u8) -> bool
     within(b, b'0', b'9')
 }
 
-pub fn is_number_byte(b: u8) -> bool
+fn is_number_byte(b: u8) -> bool
     ensures { λ r. ⌜ r ≡ isNumberByte b ⌝ }
 {
     if is_name_byte(b) {
@@ -87,7 +87,7 @@ pub fn is_number_byte(b: u8) -> bool
     b == b'\''
 }
 
-pub fn is_hex_digit(b: u8) -> bool
+fn is_hex_digit(b: u8) -> bool
     ensures { λ r. ⌜ r ≡ isHexDigit b ⌝ }
 {
     if within(b, b'0', b'9') {
@@ -109,7 +109,7 @@ pub fn is_digit(radix: Radix, b: u8) -> bool
     }
 }
 
-pub fn is_spaced_digit(radix: Radix, b: u8) -> bool
+fn is_spaced_digit(radix: Radix, b: u8) -> bool
     ensures { λ r. ⌜ r ≡ isSpacedDigit radix b ⌝ }
 {
     if is_digit(radix, b) {
@@ -118,7 +118,7 @@ pub fn is_spaced_digit(radix: Radix, b: u8) -> bool
     b == b'_'
 }
 
-pub fn in_class(class: Class, b: u8) -> bool
+fn in_class(class: Class, b: u8) -> bool
     ensures { λ r. ⌜ r ≡ inClass class b ⌝ }
 {
     match class {

@@ -7,13 +7,13 @@ use native.Mathlib.Numerals.{add-one}
 use native.Mathlib.Omega.{arith}
 use lib.Dec.{eqb}
 use borrow.Author.Tests.{eq-eqb, ne-eqb, lt-ltb, le-ltb}
-use Rattle.parts.specs.Reading.{ok}
 use Rattle.parts.specs.Parts.{instanceAt}
 use Rattle.parts.specs.Answers.{instanceRead}
 use Rattle.parts.specs.declared.Kind.the-variants as kind
 use Rattle.parts.specs.declared.Instance.{Instance}
 use Rattle.parts.specs.declared.InstanceReading.{InstanceReading}
 use Rattle.parts.specs.declared.InstanceReading.the-variants as instanceReading
+use Rattle.parts.specs.Reading.{Parsed, ok, stop}
 use Rattle.suffixes.specs.Suffixes.{instanceFault}
 use Rattle.suffixes.specs.declared.Fault.{Fault}
 use Rattle.suffixes.specs.declared.Fault.the-variants.{Sound, Broken}
@@ -34,8 +34,9 @@ use Rattle.table.specs.Definitions.{Child, Definition, definitionOf}
 use Rattle.table.specs.Relation.{IsEntry}
 use Rattle.closing.specs.declared.Placed.{Placed}
 use Rattle.closing.specs.declared.Placed.the-variants as placed
-use Rattle.closing.specs.Registers.{placement, bitAbove, withPlaced, fieldsFrom, firstBit, some, overlaps, registerFault, isEmpty, closingFault}
-use Rattle.closing.specs.Relation.{Stored, stored-end, stored-on, topOf, PlacedAs, FieldIn, breaksIn, overlapsEarlier, missingFault, AnyField, EarlierOverlap, AnyOverlap, RegisterBreaks, Closes}
+use Rattle.closing.specs.Registers.{placement, bitAbove, withPlaced, fieldsFrom, firstBit, some, overlaps, registerFault, effectFault, isEmpty, closingFault}
+use Rattle.closing.specs.Decoded.{unlessBroken, placedAs, placedRead, placedIn, fieldsInCells, fieldsBetween, topOf, breaksIn, overlapsEarlier, missingFault, closingIn}
+use Rattle.closing.specs.Relation.{Stored, stored-end, stored-on}
 use Rattle.closing.proofs.Overlaps.{overlaps-last, overlaps-kept}
 
 -- the instance of a field
@@ -43,42 +44,73 @@ pub place-width : (i : Instance) {e : Fault} → e ≡ instanceFault kind.Field 
 place-width i a b = sound-width i (sym a ∙ b)
 
 module _ (next : BitPlace) (i : Instance) (f : FieldType) {e : Fault} (a : e ≡ instanceFault kind.Field i) where
-  pub place-sound : {x : FieldAt} → e ≡ Sound → x ≡ fieldAt next i f → PlacedAs (component.Field f) next i (placed.Field x)
-  unfolding fieldAt
-  place-sound b h = record { top = rw h (sound-high (next .0) i (sym a ∙ b)); each = λ s. rw h }
+  pub place-sound : {x : FieldAt} → e ≡ Sound → x ≡ fieldAt next i f → placed.Field x ≡ placedAs (component.Field f) next i
+  unfolding placedAs
+  place-sound b h = rw (← a, b, h)
 
-  pub place-broken : {n p : ℕ} → e ≡ Broken n p → PlacedAs (component.Field f) next i placed.Other
-  place-broken b = record { top = omega arith; each = λ s. absurd (let z : _≡_ {A = ℕ} 0 1 = cc in omega arith) }
+  pub place-broken : {n p : ℕ} → e ≡ Broken n p → placed.Other ≡ placedAs (component.Field f) next i
+  unfolding placedAs
+  place-broken b = rw (← a, b)
 
 -- the instance of another component is no field
 module _ (d : Component) (next : BitPlace) (i : Instance) where
-  pub place-field : {f : FieldType} {r : Placed} → d ≡ component.Field f → PlacedAs (component.Field f) next i r → PlacedAs d next i r
+  pub place-field : {f : FieldType} {r : Placed} → d ≡ component.Field f → r ≡ placedAs (component.Field f) next i → r ≡ placedAs d next i
   place-field e h = rw e h
 
-  pub place-register : {r : Register} → d ≡ component.Register r → PlacedAs d next i placed.Other
-  place-register e = record { top = omega arith; each = λ s. rw e }
+  pub place-register : {r : Register} → d ≡ component.Register r → placed.Other ≡ placedAs d next i
+  unfolding placedAs
+  place-register e = rw e
 
-  pub place-regfile : {a : Given} → d ≡ component.Regfile a → PlacedAs d next i placed.Other
-  place-regfile e = record { top = omega arith; each = λ s. rw e }
+  pub place-regfile : {a : Given} → d ≡ component.Regfile a → placed.Other ≡ placedAs d next i
+  unfolding placedAs
+  place-regfile e = rw e
 
-  pub place-map : {a m : Given} → d ≡ component.Addrmap a m → PlacedAs d next i placed.Other
-  place-map e = record { top = omega arith; each = λ s. rw e }
+  pub place-map : {a m : Given} → d ≡ component.Addrmap a m → placed.Other ≡ placedAs d next i
+  unfolding placedAs
+  place-map e = rw e
+
+-- a field ends within 64 bits
+pub placed-top : (d : Component) (next : BitPlace) (i : Instance) → topOf (placedAs d next i) ≤ next .0 + 63
+unfolding placedAs fieldAt
+placed-top (component.Field f) next i = by (instanceFault kind.Field i) refl
+  where
+    by : (e : Fault) → instanceFault kind.Field i ≡ e → topOf (unlessBroken e (fieldAt next i f)) ≤ next .0 + 63
+    by Sound q = sound-high next i q
+    by (Broken n p) q = omega arith
+placed-top (component.Register r) next i = omega arith
+placed-top (component.Regfile a) next i = omega arith
+placed-top (component.Addrmap a m) next i = omega arith
+
+read-top : (d : Component) (next : BitPlace) (r : Parsed Instance) → topOf (placedRead d next r) ≤ next .0 + 63
+read-top d next (ok i n) = placed-top d next i
+read-top d next (stop n p) = omega arith
+
+-- an instance with sound suffixes
+pub placed-sound : (d : Component) (next : BitPlace) (i : Instance) → instanceFault (kindOf d) i ≡ Sound → placedAs d next i ≡ placement d next i
+unfolding placedAs
+placed-sound (component.Field f) next i e = rw e
+placed-sound (component.Register r) next i e = refl
+placed-sound (component.Regfile a) next i e = refl
+placed-sound (component.Addrmap a m) next i e = refl
 
 -- the instance of a cell
-module _ (text t : List ℕ) (x : ℕ) (next : BitPlace) {place : ℕ} {y : InstanceReading} (p : place ≡ placeIn x) (a : instanceRead y ≡ instanceAt text place) where
-  pub cell-done : {i : Instance} {n row : ℕ} {d : Component} {r : Placed} → y ≡ instanceReading.Done i n → (row ≡ rowIn x) × (row < 256) → d ≡ componentIn t row → PlacedAs d next i r → FieldIn text t x next r
-  cell-done {i = i} {n = n} {d = d} b (e, l) f h =
-      record {
-        top = h .top;
-        each = λ c d′ k g s.
-            let w : ok i n ≡ ok (c .instance) (k .next) = (rw b at a) ∙ (rw p (k .reads)) in
-            let q : i ≡ c .instance = cc in
-            let m : d ≡ d′ = f ∙ (rw (e, k .type) g) in
-            rw (← q, ← m) (h .each (rw (q, m) s));
-      }
+module _ (text t : List ℕ) (x : ℕ) (next : BitPlace) where
+  module _ {place : ℕ} {y : InstanceReading} (p : place ≡ placeIn x) (a : instanceRead y ≡ instanceAt text place) where
+    pub cell-done : {i : Instance} {n row : ℕ} {d : Component} {r : Placed} → y ≡ instanceReading.Done i n → (row ≡ rowIn x) × (row < 256) → d ≡ componentIn t row → r ≡ placedAs d next i → r ≡ placedIn text t next x
+    unfolding placedIn
+    cell-done b (e, l) f h = rw (← p, ← a, b, ← e, ← f) h
 
-  pub cell-stop : {q : ℕ} → y ≡ instanceReading.Stop q → FieldIn text t x next placed.Other
-  cell-stop b = record { top = omega arith; each = λ c d k g s. let r = k .reads in absurd (let z : _≡_ {A = ℕ} 0 1 = cc in omega arith) }
+    pub cell-stop : {q : ℕ} → y ≡ instanceReading.Stop q → placed.Other ≡ placedIn text t next x
+    unfolding placedIn
+    cell-stop b = rw (← p, ← a, b)
+
+  cell-top : topOf (placedIn text t next x) ≤ next .0 + 63
+  unfolding placedIn
+  cell-top = read-top (componentIn t (rowIn x)) next (instanceAt text (placeIn x))
+
+  cell-sound : {c : Child} {d : Component} → IsEntry text x c → componentIn t (c .type) ≡ d → instanceFault (kindOf d) (c .instance) ≡ Sound → placedIn text t next x ≡ placement d next (c .instance)
+  unfolding placedIn
+  cell-sound {c} {d} k g s = rw (k .reads, k .type, g) (placed-sound d next (c .instance) s)
 
 -- where the next field starts
 pub field-top : (p : Placed) {f : FieldAt} → p ≡ placed.Field f → topOf p < 4294967296 → f .high .0 < 4294967296
@@ -111,218 +143,199 @@ overlap-last : (fs : List FieldAt) (p : Placed) {b : Bool} → b ≡ overlapsEar
 overlap-last fs (placed.Field f) e h = overlaps-last fs f ∙ (rw (h, e))
 overlap-last fs placed.Other e h = rw (append-nil fs, e) h
 
--- one more instance behind those that stand there
-stored-last : {text t : List ℕ} {table : List Definition} {from i : ℕ} {cs : List Child} {c : Child} → Stored text t table i from cs → IsEntry text (cellOf t i) c
-    → componentIn t (c .type) ≡ definitionOf table (c .type) .component
-    → instanceFault (kindOf (definitionOf table (c .type) .component)) (c .instance) ≡ Sound
-    → Stored text t table (suc i) from (cs ++ (c ∷ []))
-stored-last {i = i} stored-end k g s = stored-on {i = i} (omega arith) k g s stored-end
-stored-last (stored-on {i = j} l m n o r) k g s = stored-on {i = j} (omega arith) m n o (stored-last r k g s)
+-- the field of the first cell, with those behind it
+fields-on : (text t : List ℕ) (next : BitPlace) (i to : ℕ) {x : ℕ} {p : Placed} → i < to → x ≡ cellOf t i → p ≡ placedIn text t next x
+    → fieldsInCells text t next i (to - i) ≡ withPlaced p (fieldsInCells text t (bitAbove p next) (i + 1) (to - (i + 1)))
+unfolding fieldsInCells
+fields-on text t next i to h e f =
+    let n : to - i ≡ suc (to - (i + 1)) = omega arith in
+    let m : i + 1 ≡ suc i = add-one i in
+    rw (n, m, f, e)
 
--- the first instance with those behind it, and the fields of all
-record Rest (text t : List ℕ) (table : List Definition) (to i : ℕ) (p : Placed) (next : BitPlace) (cs : List Child) : Type 0 where
-  child : Child
-  children : List Child
-  whole : cs ≡ child ∷ children
-  last : {from : ℕ} {before : List Child} → Stored text t table i from before → Stored text t table (i + 1) from (before ++ (child ∷ []))
-  stored : Stored text t table to (i + 1) children
-  onto : (rest : List Child) → fieldsFrom table next (child ∷ rest) ≡ withPlaced p (fieldsFrom table (bitAbove p next) rest)
-  same : fieldsFrom table next cs ≡ withPlaced p (fieldsFrom table (bitAbove p next) children)
+fields-none : (text t : List ℕ) (next : BitPlace) (i to : ℕ) → to ≤ i → fieldsInCells text t next i (to - i) ≡ []
+unfolding fieldsInCells
+fields-none text t next i to h = let n : to - i ≡ 0 = omega arith in rw n
 
-rest-of : {text t : List ℕ} {table : List Definition} {to i x : ℕ} {cs : List Child} {p : Placed} {next : BitPlace} → i < to → x ≡ cellOf t i → FieldIn text t x next p → Stored text t table to i cs
-    → Rest text t table to i p next cs
-unfolding fieldsFrom
-rest-of h e f stored-end = absurd (omega arith)
-rest-of {table = table} {p = p} {next = next} h e f (stored-on {i = i} {c = c} {cs = cs} l k g s r) =
-    let q : p ≡ placement (definitionOf table (c .type) .component) next (c .instance) = f .each c (definitionOf table (c .type) .component) (rw e k) g s in
-    record { child = c; children = cs; whole = refl; last = λ b. rw add-one (stored-last b k g s); stored = rw add-one r; onto = λ rest. rw (← q); same = rw (← q) }
-
--- the instances that are left, and what is asked of their fields
-pub record Left (text t : List ℕ) (table : List Definition) (to : ℕ) (probe : Probe) (i : ℕ) (next : BitPlace) (answer : Bool) : Type 0 where
-  pub children : List Child
-  pub stored : Stored text t table to i children
-  pub same : some probe (fieldsFrom table next children) ≡ answer
-
+-- what is asked of the fields that are left is what is asked of all
 pub record Asking (text t : List ℕ) (from to : ℕ) (first : BitPlace) (probe : Probe) (i : ℕ) (next : BitPlace) : Type 0 where
   pub low : next .0 + 64 * (to - i) < 4294967296
-  pub each : (table : List Definition) (cs : List Child) → Stored text t table to from cs → Left text t table to probe i next (some probe (fieldsFrom table first cs))
-
-none-left : {text t : List ℕ} {table : List Definition} {to i : ℕ} {cs : List Child} (next : BitPlace) → to ≤ i → Stored text t table to i cs → fieldsFrom table next cs ≡ []
-unfolding fieldsFrom
-none-left next h stored-end = refl
-none-left next h (stored-on l k g s r) = absurd (omega arith)
+  pub same : some probe (fieldsInCells text t next i (to - i)) ≡ some probe (fieldsInCells text t first from (to - from))
 
 -- whether some field breaks a rule
 module _ (text t : List ℕ) (from to : ℕ) (first : BitPlace) (probe : Probe) where
   pub ask-start : first .0 + 64 * (to - from) < 4294967296 → Asking text t from to first probe from first
-  ask-start h = record { low = h; each = λ table cs s. record { children = cs; stored = s; same = refl } }
+  ask-start h = record { low = h; same = refl }
 
 module _ (text t : List ℕ) (from to : ℕ) (first : BitPlace) (probe : Probe) {i : ℕ} {next : BitPlace} (s : Asking text t from to first probe i next) where
   pub next-fits : next .0 < 4294967296
   next-fits = let l = s .low in omega arith
 
-  pub top-fits : {x : ℕ} {p : Placed} → i < to → FieldIn text t x next p → topOf p < 4294967296
-  top-fits h f = let l = s .low in let m = f .top in omega arith
+  pub top-fits : {x : ℕ} {p : Placed} → i < to → x ≡ cellOf t i → p ≡ placedIn text t next x → topOf p < 4294967296
+  top-fits {x} h e f = let l = s .low in let m = cell-top text t x next in rw f (omega arith)
 
-  pub find-end : to ≤ i → AnyField text t from to first probe false
+  pub find-end : to ≤ i → false ≡ some probe (fieldsInCells text t first from (to - from))
   unfolding some
-  find-end h = record { each = λ table cs d. let l = s .each table cs d in rw (none-left next h (l .stored)) at (l .same) }
+  find-end h = rw (fields-none text t next i to h) at (s .same)
 
-  module _ {x : ℕ} {p : Placed} {b : Bool} (h : i < to) (e : x ≡ cellOf t i) (f : FieldIn text t x next p) (g : b ≡ breaksIn probe p) where
-    pub find-here : b ≡ true → AnyField text t from to first probe true
-    find-here y = record {
-      each = λ table cs d.
-          let l = s .each table cs d in
-          let r = rest-of h e f (l .stored) in
-          some-here probe p (fieldsFrom table (bitAbove p next) (r .children)) (sym g ∙ y) ∙ (rw (r .same) at (l .same));
-    }
+  module _ {x : ℕ} {p : Placed} {b : Bool} (h : i < to) (e : x ≡ cellOf t i) (f : p ≡ placedIn text t next x) (g : b ≡ breaksIn probe p) where
+    abbrev later : List FieldAt
+    later = fieldsInCells text t (bitAbove p next) (i + 1) (to - (i + 1))
+
+    pub find-here : b ≡ true → true ≡ some probe (fieldsInCells text t first from (to - from))
+    find-here y = some-here probe p later (sym g ∙ y) ∙ (rw (fields-on text t next i to h e f) at (s .same))
 
     pub find-on : {n : BitPlace} → b ≡ false → n ≡ bitAbove p next → Asking text t from to first probe (i + 1) n
-    find-on y z = record {
-      low = rw z (above-fits p next h (f .top) (s .low));
-      each = λ table cs d.
-          let l = s .each table cs d in
-          let r = rest-of h e f (l .stored) in
-          let w = some-next probe p (fieldsFrom table (bitAbove p next) (r .children)) (sym g ∙ y) in
-          record { children = r .children; stored = r .stored; same = rw z (sym w ∙ (rw (r .same) at (l .same))) };
-    }
+    find-on y z =
+        record {
+          low = rw z (above-fits p next h (rw f (cell-top text t x next)) (s .low));
+          same = rw z (sym (some-next probe p later (sym g ∙ y)) ∙ (rw (fields-on text t next i to h e f) at (s .same)));
+        }
 
 -- a field against the earlier ones
-module _ (text t : List ℕ) (from to : ℕ) (p : Placed) where
-  pub earlier-field : {f : FieldAt} {b : Bool} → p ≡ placed.Field f → AnyField text t from to firstBit (Overlap f) b → EarlierOverlap text t from to p b
-  earlier-field e h = record { each = λ table cs d. rw e (h .each table cs d) }
+module _ (p : Placed) (fs : List FieldAt) where
+  pub earlier-field : {f : FieldAt} {b : Bool} → p ≡ placed.Field f → b ≡ some (Overlap f) fs → b ≡ overlapsEarlier p fs
+  earlier-field e h = rw e h
 
-  pub earlier-other : p ≡ placed.Other → EarlierOverlap text t from to p false
-  earlier-other e = record { each = λ table cs d. rw e }
+  pub earlier-other : p ≡ placed.Other → false ≡ overlapsEarlier p fs
+  earlier-other e = rw e
 
--- the instances that are passed, of whose fields none overlaps another, and those that are left
-pub record Passed (text t : List ℕ) (table : List Definition) (from to i : ℕ) (next : BitPlace) (cs : List Child) : Type 0 where
-  pub passed : List Child
-  pub left : List Child
-  pub before : Stored text t table i from passed
-  pub behind : Stored text t table to i left
-  pub whole : cs ≡ passed ++ left
-  pub split : (rest : List Child) → fieldsFrom table firstBit (passed ++ rest) ≡ fieldsFrom table firstBit passed ++ fieldsFrom table next rest
-  pub apart : overlaps (fieldsFrom table firstBit passed) ≡ false
-
+-- of the fields that are passed none overlaps another, and those that are left stand behind them
 pub record Passing (text t : List ℕ) (from to i : ℕ) (next : BitPlace) : Type 0 where
   pub low : next .0 + 64 * (to - i) < 4294967296
-  pub each : (table : List Definition) (cs : List Child) → Stored text t table to from cs → Passed text t table from to i next cs
-
-passed-on : {text t : List ℕ} {table : List Definition} {from to i : ℕ} {p : Placed} {next : BitPlace} {cs : List Child} (l : Passed text t table from to i next cs) → Rest text t table to i p next (l .left)
-    → false ≡ overlapsEarlier p (fieldsFrom table firstBit (l .passed)) → Passed text t table from to (i + 1) (bitAbove p next) cs
-unfolding fieldsFrom
-passed-on {table = table} {p = p} {next = next} l r e =
-    let c = r .child in
-    let fields = fieldsFrom table firstBit (l .passed) in
-    record {
-      passed = l .passed ++ (c ∷ []);
-      left = r .children;
-      before = r .last (l .before);
-      behind = r .stored;
-      whole = rw (l .whole, r .whole) (sym (append-assoc (l .passed) (c ∷ []) (r .children)));
-      split = λ rest. rw (append-assoc (l .passed) (c ∷ []) rest, l .split (c ∷ rest), l .split (c ∷ []), r .onto rest, r .onto []) (placed-last fields p (fieldsFrom table (bitAbove p next) rest));
-      apart = rw (l .split (c ∷ []), r .onto []) (overlap-last fields p e (l .apart));
-    }
+  pub begun : from ≤ i
+  pub reached : i - from ≤ to - from
+  pub split : (n : ℕ) → fieldsInCells text t firstBit from (i - from + n) ≡ fieldsBetween text t from i ++ fieldsInCells text t next i n
+  pub apart : overlaps (fieldsBetween text t from i) ≡ false
 
 -- whether some field overlaps an earlier one
 module _ (text t : List ℕ) (from to : ℕ) where
   pub pass-start : to ≤ 131072 → Passing text t from to from firstBit
-  unfolding fieldsFrom overlaps
-  pass-start h = record { low = omega arith; each = λ table cs s. record { passed = []; left = cs; before = stored-end; behind = s; whole = refl; split = λ rest. refl; apart = refl } }
+  unfolding fieldsInCells overlaps
+  pass-start h =
+      let z : from - from ≡ 0 = omega arith in
+      record { low = omega arith; begun = omega arith; reached = omega arith; split = λ n. let m : 0 + n ≡ n = omega arith in rw (z, m); apart = rw z }
 
   module _ {i : ℕ} {next : BitPlace} (s : Passing text t from to i next) where
     pub pass-fits : next .0 < 4294967296
     pass-fits = let l = s .low in omega arith
 
-    pub pass-top : {x : ℕ} {p : Placed} → i < to → FieldIn text t x next p → topOf p < 4294967296
-    pass-top h f = let l = s .low in let m = f .top in omega arith
+    pub pass-top : {x : ℕ} {p : Placed} → i < to → x ≡ cellOf t i → p ≡ placedIn text t next x → topOf p < 4294967296
+    pass-top {x} h e f = let l = s .low in let m = cell-top text t x next in rw f (omega arith)
 
-    pub overlap-end : to ≤ i → AnyOverlap text t from to false
-    overlap-end h = record {
-      each = λ table cs d.
-          let l = s .each table cs d in
-          rw (l .whole, l .split (l .left), none-left next h (l .behind), append-nil (fieldsFrom table firstBit (l .passed))) (sym (l .apart));
-    }
+    pub overlap-end : to ≤ i → false ≡ overlaps (fieldsBetween text t from to)
+    overlap-end h = let a = s .reached in let b = s .begun in let z : to - from ≡ i - from = omega arith in rw z (sym (s .apart))
 
-    module _ {x : ℕ} {p : Placed} {b : Bool} (h : i < to) (e : x ≡ cellOf t i) (f : FieldIn text t x next p) (g : EarlierOverlap text t from i p b) where
-      pub overlap-here : b ≡ true → AnyOverlap text t from to true
-      overlap-here y = record {
-        each = λ table cs d.
-            let l = s .each table cs d in
-            let r = rest-of h e f (l .behind) in
-            let fields = fieldsFrom table firstBit (l .passed) in
-            let rest = fieldsFrom table (bitAbove p next) (r .children) in
-            let w = overlap-last fields p (g .each table (l .passed) (l .before)) (l .apart) ∙ y in
-            rw (l .whole, l .split (l .left), r .same, placed-last fields p rest) (sym (overlaps-kept (fields ++ withPlaced p []) rest w));
-      }
+    module _ {x : ℕ} {p : Placed} {b : Bool} (h : i < to) (e : x ≡ cellOf t i) (f : p ≡ placedIn text t next x) (g : b ≡ overlapsEarlier p (fieldsBetween text t from i)) where
+      -- the fields with so many behind this one
+      fields-more : (n : ℕ) → fieldsInCells text t firstBit from (i + 1 - from + n) ≡ (fieldsBetween text t from i ++ withPlaced p []) ++ fieldsInCells text t (bitAbove p next) (i + 1) n
+      unfolding fieldsInCells
+      fields-more n =
+          let a = s .begun in
+          let z : i + 1 - from + n ≡ i - from + suc n = omega arith in
+          let m : i + 1 ≡ suc i = add-one i in
+          let q : Placed = placedIn text t next (cellOf t i) in
+          rw (z, s .split (suc n), m, f, e) (placed-last (fieldsBetween text t from i) q (fieldsInCells text t (bitAbove q next) (suc i) n))
+
+      fields-last : fieldsBetween text t from (i + 1) ≡ fieldsBetween text t from i ++ withPlaced p []
+      unfolding fieldsInCells
+      fields-last =
+          let z : i + 1 - from + 0 ≡ i + 1 - from = omega arith in
+          (rw z at (fields-more 0)) ∙ append-nil (fieldsBetween text t from i ++ withPlaced p [])
+
+      pub overlap-here : b ≡ true → true ≡ overlaps (fieldsBetween text t from to)
+      overlap-here y =
+          let a = s .begun in
+          let z : to - from ≡ i + 1 - from + (to - (i + 1)) = omega arith in
+          let w = overlap-last (fieldsBetween text t from i) p g (s .apart) ∙ y in
+          let rest = fieldsInCells text t (bitAbove p next) (i + 1) (to - (i + 1)) in
+          rw (z, fields-more (to - (i + 1))) (sym (overlaps-kept (fieldsBetween text t from i ++ withPlaced p []) rest w))
 
       pub overlap-on : {n : BitPlace} → b ≡ false → n ≡ bitAbove p next → Passing text t from to (i + 1) n
-      overlap-on y z = record {
-        low = rw z (above-fits p next h (f .top) (s .low));
-        each = λ table cs d.
-            let l = s .each table cs d in
-            rw z (passed-on l (rest-of h e f (l .behind)) (sym y ∙ g .each table (l .passed) (l .before)));
-      }
+      overlap-on y z =
+          let a = s .begun in
+          record {
+            low = rw z (above-fits p next h (rw f (cell-top text t x next)) (s .low));
+            begun = omega arith;
+            reached = omega arith;
+            split = λ k. rw (z, fields-last) (fields-more k);
+            apart = rw fields-last (overlap-last (fieldsBetween text t from i) p g (s .apart) ∙ y);
+          }
 
 -- 13 to 17
-module _ (text t : List ℕ) (from to : ℕ) (reg : Register) {a : Bool} (wide : AnyField text t from to firstBit Wide a) where
-  pub register-wide : a ≡ true → RegisterBreaks text t from to reg 13
+module _ (fs : List FieldAt) (reg : Register) {a : Bool} (wide : a ≡ some Wide fs) where
+  pub register-wide : a ≡ true → 13 ≡ registerFault reg fs
   unfolding registerFault
-  register-wide y = record { each = λ table cs d. rw (← wide .each table cs d, y) }
+  register-wide y = rw (← wide, y)
 
   module _ (m : a ≡ false) where
-    pub register-access : reg .width < reg .access → RegisterBreaks text t from to reg 14
+    pub register-access : reg .width < reg .access → 14 ≡ registerFault reg fs
     unfolding registerFault
-    register-access y = record { each = λ table cs d. rw (← wide .each table cs d, m, lt-ltb (reg .width) (reg .access) y) }
+    register-access y = rw (← wide, m, lt-ltb (reg .width) (reg .access) y)
 
-    module _ {b : Bool} (n : reg .access ≤ reg .width) (outside : AnyField text t from to firstBit (Outside (reg .width)) b) where
-      pub register-outside : b ≡ true → RegisterBreaks text t from to reg 15
+    module _ {b : Bool} (n : reg .access ≤ reg .width) (outside : b ≡ some (Outside (reg .width)) fs) where
+      pub register-outside : b ≡ true → 15 ≡ registerFault reg fs
       unfolding registerFault
-      register-outside y = record { each = λ table cs d. rw (← wide .each table cs d, m, le-ltb (reg .width) (reg .access) n, ← outside .each table cs d, y) }
+      register-outside y = rw (← wide, m, le-ltb (reg .width) (reg .access) n, ← outside, y)
 
-      module _ {c : Bool} (o : b ≡ false) (over : AnyOverlap text t from to c) where
-        pub register-overlap : c ≡ true → RegisterBreaks text t from to reg 16
+      module _ {c : Bool} (o : b ≡ false) (over : c ≡ overlaps fs) where
+        pub register-overlap : c ≡ true → 16 ≡ registerFault reg fs
         unfolding registerFault
-        register-overlap y = record { each = λ table cs d. rw (← wide .each table cs d, m, le-ltb (reg .width) (reg .access) n, ← outside .each table cs d, o, ← over .each table cs d, y) }
+        register-overlap y = rw (← wide, m, le-ltb (reg .width) (reg .access) n, ← outside, o, ← over, y)
 
-        module _ {e : Bool} (p : c ≡ false) (spans : AnyField text t from to firstBit (Span (reg .access)) e) where
-          pub register-spans : e ≡ true → RegisterBreaks text t from to reg 17
+        module _ {e : Bool} (p : c ≡ false) (spans : e ≡ some (Span (reg .access)) fs) where
+          pub register-spans : e ≡ true → 17 ≡ registerFault reg fs
           unfolding registerFault
-          register-spans y = record { each = λ table cs d. rw (← wide .each table cs d, m, le-ltb (reg .width) (reg .access) n, ← outside .each table cs d, o, ← over .each table cs d, p, ← spans .each table cs d, y) }
+          register-spans y = rw (← wide, m, le-ltb (reg .width) (reg .access) n, ← outside, o, ← over, p, ← spans, y)
 
-          pub register-sound : e ≡ false → RegisterBreaks text t from to reg 0
+          pub register-sound : e ≡ false → 0 ≡ registerFault reg fs
           unfolding registerFault
-          register-sound y = record { each = λ table cs d. rw (← wide .each table cs d, m, le-ltb (reg .width) (reg .access) n, ← outside .each table cs d, o, ← over .each table cs d, p, ← spans .each table cs d, y) }
+          register-sound y = rw (← wide, m, le-ltb (reg .width) (reg .access) n, ← outside, o, ← over, p, ← spans, y)
+
+-- a body at its closing brace
+module _ (text t : List ℕ) (from to : ℕ) where
+  module _ (reg : Register) where
+    pub close-empty : from ≡ to → 10 ≡ closingIn text t from to (component.Register reg)
+    unfolding closingIn
+    close-empty e = rw (eq-eqb from to e)
+
+    pub close-full : {n : ℕ} → (from ≡ to → ⊥) → n ≡ registerFault reg (fieldsBetween text t from to) → n ≡ closingIn text t from to (component.Register reg)
+    unfolding closingIn
+    close-full e h = rw (ne-eqb from to e) h
+
+  module _ (d : Component) {n : ℕ} where
+    pub close-field : {f : FieldType} → d ≡ component.Field f → n ≡ effectFault f → n ≡ closingIn text t from to d
+    unfolding closingIn
+    close-field e h = rw e h
+
+    pub close-register : {r : Register} → d ≡ component.Register r → n ≡ closingIn text t from to (component.Register r) → n ≡ closingIn text t from to d
+    close-register e h = rw e h
+
+    pub close-regfile : {a : Given} → d ≡ component.Regfile a → n ≡ missingFault from to → n ≡ closingIn text t from to d
+    unfolding closingIn
+    close-regfile e h = rw e h
+
+    pub close-map : {a m : Given} → d ≡ component.Addrmap a m → n ≡ missingFault from to → n ≡ closingIn text t from to d
+    unfolding closingIn
+    close-map e h = rw e h
+
+-- the fields of the instances that stand in cells are those that the cells decode to
+stored-fields : {text t : List ℕ} {table : List Definition} {to i : ℕ} {cs : List Child} (next : BitPlace) → Stored text t table to i cs → fieldsInCells text t next i (to - i) ≡ fieldsFrom table next cs
+unfolding fieldsInCells fieldsFrom
+stored-fields {text = text} {t = t} {to = to} next stored-end = fields-none text t next to to (omega arith)
+stored-fields {text = text} {t = t} {table = table} {to = to} next (stored-on {i = i} {c = c} l k g s r) =
+    let n : to - i ≡ suc (to - suc i) = omega arith in
+    let p = placement (definitionOf table (c .type) .component) next (c .instance) in
+    rw (n, cell-sound text t (cellOf t i) next k g s, stored-fields (bitAbove p next) r)
 
 -- there is no cell exactly where there is no instance
 missing-at : {text t : List ℕ} {table : List Definition} (to i : ℕ) {cs : List Child} → Stored text t table to i cs → eqb i to ≡ isEmpty cs
 missing-at to i stored-end = eq-eqb to to refl
 missing-at to i (stored-on l k g s r) = ne-eqb i to (λ e. omega arith)
 
--- a body at its closing brace
-module _ (text t : List ℕ) (from to : ℕ) where
-  module _ (reg : Register) where
-    pub close-empty : from ≡ to → Closes text t from to (component.Register reg) 10
-    unfolding closingFault
-    close-empty e = record { each = λ table cs d. rw (← missing-at to from d, eq-eqb from to e) }
-
-    pub close-full : {n : ℕ} → (from ≡ to → ⊥) → RegisterBreaks text t from to reg n → Closes text t from to (component.Register reg) n
-    unfolding closingFault
-    close-full e h = record { each = λ table cs d. rw (← missing-at to from d, ne-eqb from to e) (h .each table cs d) }
-
-  module _ (d : Component) {n : ℕ} where
-    pub close-field : {f : FieldType} → d ≡ component.Field f → n ≡ closingFault [] (component.Field f) [] → Closes text t from to d n
-    unfolding closingFault
-    close-field e h = record { each = λ table cs s. rw e h }
-
-    pub close-register : {r : Register} → d ≡ component.Register r → Closes text t from to (component.Register r) n → Closes text t from to d n
-    close-register e h = rw e h
-
-    pub close-regfile : {a : Given} → d ≡ component.Regfile a → n ≡ missingFault from to → Closes text t from to d n
-    unfolding closingFault
-    close-regfile e h = record { each = λ table cs s. rw (e, ← missing-at to from s) h }
-
-    pub close-map : {a m : Given} → d ≡ component.Addrmap a m → n ≡ missingFault from to → Closes text t from to d n
-    unfolding closingFault
-    close-map e h = record { each = λ table cs s. rw (e, ← missing-at to from s) h }
+-- a body's instances at its closing brace
+pub stored-closing : {text t : List ℕ} {table : List Definition} {to from : ℕ} {cs : List Child} (d : Component) → Stored text t table to from cs → closingIn text t from to d ≡ closingFault table d cs
+unfolding closingIn closingFault
+stored-closing (component.Field f) s = refl
+stored-closing {to = to} {from = from} (component.Register r) s = rw (missing-at to from s, stored-fields firstBit s)
+stored-closing {to = to} {from = from} (component.Regfile a) s = rw (missing-at to from s)
+stored-closing {to = to} {from = from} (component.Addrmap a m) s = rw (missing-at to from s)

@@ -6,6 +6,7 @@ use lib.Dec.{ltb}
 use Rattle.chars.specs.Choice.{if_then_else_}
 use Rattle.components.specs.Fields.{fieldAt, breaks, hasUnusableEffect}
 use Rattle.components.specs.declared.BitPlace.{BitPlace}
+use Rattle.components.specs.declared.FieldType.{FieldType}
 use Rattle.components.specs.declared.FieldAt.{FieldAt}
 use Rattle.components.specs.declared.Register.{Register}
 use Rattle.components.specs.declared.Component.{Component}
@@ -67,13 +68,17 @@ registerFault r fs =
     if some (Span (r .access)) fs then 17 else
     0
 
+-- 12: an effect that the access does not allow
+abbrev pub effectFault : FieldType → ℕ
+effectFault f = if hasUnusableEffect f then 12 else 0
+
 abbrev pub isEmpty : List Child → Bool
 isEmpty [] = true
 isEmpty (c ∷ cs) = false
 
 -- the smallest number that a body breaks at its closing brace, and 0 for none: "Every body but a field's needs at least one instance"
 unfoldable pub closingFault : List Definition → Component → List Child → ℕ
-closingFault table (component.Field f) cs = if hasUnusableEffect f then 12 else 0
+closingFault table (component.Field f) cs = effectFault f
 closingFault table (component.Register r) cs = if isEmpty cs then 10 else registerFault r (fieldsOf table cs)
 closingFault table (component.Regfile a) cs = if isEmpty cs then 10 else 0
 closingFault table (component.Addrmap a m) cs = if isEmpty cs then 10 else 0

@@ -10,10 +10,9 @@ use parts::InstanceReading;
 use parts::Kind;
 use suffixes::Fault;
 ghost use mathlib.Core.Path.{_≡_};
-ghost use mathlib.Core.List.{[]};
 ghost use Prim.Native.Nat.{_+_, _-_, _*_, _≤_, _<_};
-ghost use Rattle.closing.specs.Registers.{bitAbove, closingFault};
-ghost use Rattle.closing.specs.Relation.{topOf, PlacedAs, FieldIn, breaksIn, missingFault, AnyField, EarlierOverlap, AnyOverlap, RegisterBreaks, Closes};
+ghost use Rattle.closing.specs.Registers.{bitAbove, some, overlaps, registerFault, effectFault};
+ghost use Rattle.closing.specs.Decoded.{placedAs, placedIn, fieldsInCells, fieldsBetween, topOf, breaksIn, overlapsEarlier, missingFault, closingIn};
 
 // A field of a register, or an instance that is none.
 pub enum Placed {
@@ -24,7 +23,7 @@ pub enum Placed {
 // A field's instance at its place; an instance with unsound suffixes has none.
 fn place_field(next: BitPlace, instance: Instance, field: FieldType) -> Placed
     requires { ⌜ next .0 < 4294967296 ⌝ }
-    ensures { λ r. ⌜ PlacedAs (Component.Field field) next instance r ⌝ }
+    ensures { λ r. ⌜ r ≡ placedAs (Component.Field field) next instance ⌝ }
 {
     match suffixes::instance_fault(Kind::Field, instance) {
         Fault::Sound => Placed::Field(components::field_at(next, instance, field)),
@@ -35,7 +34,7 @@ fn place_field(next: BitPlace, instance: Instance, field: FieldType) -> Placed
 // The instance of a component as a field, where `next` is the bit above the field before it.
 pub fn placed_as(component: Component, next: BitPlace, instance: Instance) -> Placed
     requires { ⌜ next .0 < 4294967296 ⌝ }
-    ensures { λ r. ⌜ PlacedAs component next instance r ⌝ }
+    ensures { λ r. ⌜ r ≡ placedAs component next instance ⌝ }
 {
     match component {
         Component::Field(field) => place_field(next, instance, field),
@@ -48,7 +47,7 @@ pub fn placed_as(component: Component, next: BitPlace, instance: Instance) -> Pl
 // The field of a cell.
 fn field_in(text: &[u8], cells: &[u64], entry: u64, next: BitPlace) -> Placed
     requires { ⌜ next .0 < 4294967296 ⌝ }
-    ensures { λ r. ⌜ FieldIn (now (text .entry)) (now (cells .entry)) entry next r ⌝ }
+    ensures { λ r. ⌜ r ≡ placedIn (now (text .entry)) (now (cells .entry)) next entry ⌝ }
 {
     let component = table::component_at(cells, table::row_in(entry));
     match parts::read_instance(text, table::place_in(entry)) {
@@ -88,7 +87,7 @@ fn any_field(
     probe: Probe,
 ) -> bool
     requires { ⌜ (to ≤ 131072) × (first .0 + 64 * (to - from) < 4294967296) ⌝ }
-    ensures { λ r. ⌜ AnyField (now (text .entry)) (now (cells .entry)) from to first probe r ⌝ }
+    ensures { λ r. ⌜ r ≡ some probe (fieldsInCells (now (text .entry)) (now (cells .entry)) first from (to - from)) ⌝ }
 {
     let mut i = from;
     let mut next = first;
@@ -106,7 +105,7 @@ fn any_field(
 // Whether a field overlaps an earlier one of its register unlawfully; the cells from one up to another hold the earlier ones.
 fn overlaps_earlier(text: &[u8], cells: &[u64], from: usize, to: usize, placed: Placed) -> bool
     requires { ⌜ to ≤ 131072 ⌝ }
-    ensures { λ r. ⌜ EarlierOverlap (now (text .entry)) (now (cells .entry)) from to placed r ⌝ }
+    ensures { λ r. ⌜ r ≡ overlapsEarlier placed (fieldsBetween (now (text .entry)) (now (cells .entry)) from to) ⌝ }
 {
     match placed {
         Placed::Field(field) => {
@@ -120,7 +119,7 @@ fn overlaps_earlier(text: &[u8], cells: &[u64], from: usize, to: usize, placed: 
 // 129 fields settle it, however many there are.
 fn any_overlap(text: &[u8], cells: &[u64], from: usize, to: usize) -> bool
     requires { ⌜ to ≤ 131072 ⌝ }
-    ensures { λ r. ⌜ AnyOverlap (now (text .entry)) (now (cells .entry)) from to r ⌝ }
+    ensures { λ r. ⌜ r ≡ overlaps (fieldsBetween (now (text .entry)) (now (cells .entry)) from to) ⌝ }
 {
     let mut i = from;
     let mut next = BitPlace(0);
@@ -138,7 +137,7 @@ fn any_overlap(text: &[u8], cells: &[u64], from: usize, to: usize) -> bool
 // The smallest number of 13 to 17 that a register breaks, or 0.
 fn register_fault(text: &[u8], cells: &[u64], from: usize, to: usize, register: Register) -> u8
     requires { ⌜ to ≤ 131072 ⌝ }
-    ensures { λ r. ⌜ RegisterBreaks (now (text .entry)) (now (cells .entry)) from to register r ⌝ }
+    ensures { λ r. ⌜ r ≡ registerFault register (fieldsBetween (now (text .entry)) (now (cells .entry)) from to) ⌝ }
 {
     let bottom = BitPlace(0);
     if any_field(text, cells, from, to, bottom, Probe::Wide) {
@@ -178,7 +177,7 @@ fn missing_fault(from: usize, to: usize) -> u8
 
 fn register_closing(text: &[u8], cells: &[u64], from: usize, to: usize, register: Register) -> u8
     requires { ⌜ to ≤ 131072 ⌝ }
-    ensures { λ r. ⌜ Closes (now (text .entry)) (now (cells .entry)) from to (Component.Register register) r ⌝ }
+    ensures { λ r. ⌜ r ≡ closingIn (now (text .entry)) (now (cells .entry)) from to (Component.Register register) ⌝ }
 {
     if from == to {
         return 10;
@@ -187,7 +186,7 @@ fn register_closing(text: &[u8], cells: &[u64], from: usize, to: usize, register
 }
 
 fn field_closing(field: FieldType) -> u8
-    ensures { λ r. ⌜ r ≡ closingFault [] (Component.Field field) [] ⌝ }
+    ensures { λ r. ⌜ r ≡ effectFault field ⌝ }
 {
     if components::has_unusable_effect(field) {
         return 12;
@@ -198,7 +197,7 @@ fn field_closing(field: FieldType) -> u8
 // The smallest number that a body breaks at its closing brace, or 0; the cells from one up to another hold its instances.
 pub fn closing_fault(text: &[u8], cells: &[u64], from: usize, to: usize, component: Component) -> u8
     requires { ⌜ to ≤ 131072 ⌝ }
-    ensures { λ r. ⌜ Closes (now (text .entry)) (now (cells .entry)) from to component r ⌝ }
+    ensures { λ r. ⌜ r ≡ closingIn (now (text .entry)) (now (cells .entry)) from to component ⌝ }
 {
     match component {
         Component::Field(field) => field_closing(field),

@@ -1,11 +1,10 @@
 -- The stages of the compiler, one after another.
 use mathlib.Core.Path.{_≡_, refl, sym, ap, subst, _∙_}
 use mathlib.Core.Bool.{Bool, true, false}
-use mathlib.Core.List.{List, [], _∷_}
-use Prim.Native.Nat.{ℕ, suc, _+_, _*_, _<_, _≤_}
+use mathlib.Core.List.{List, [], _∷_, _++_}
+use Prim.Native.Nat.{ℕ, _+_, _<_, _≤_}
 use native.Mathlib.Omega.{arith}
-use lib.Dec.{ltb}
-use lib.ListN.{length, getD}
+use lib.ListN.{length}
 use Rattle.chars.specs.Choice.{if_then_else_}
 use Rattle.lex.specs.Words.{wordsVerdict}
 use Rattle.lex.specs.declared.Verdict.{Verdict}
@@ -24,33 +23,34 @@ use Rattle.settings.specs.Codes.{modeCode}
 use Rattle.settings.specs.declared.Mode.the-variants as mode
 use Rattle.components.specs.declared.Component.{Component}
 use Rattle.components.specs.declared.Component.the-variants as component
-use Rattle.table.specs.Cells.{size, componentIn}
-use Rattle.table.specs.Definitions.{Definition, definitionOf}
-use Rattle.table.specs.Relation.{Holds}
+use Rattle.table.specs.Cells.{componentIn}
+use Rattle.table.specs.Definitions.{definitionOf}
 use Rattle.places.specs.declared.Ruling.{Ruling}
 use Rattle.places.specs.declared.Ruling.the-variants as ruling
 use Rattle.rules.specs.Judge.{Meaning, judge, found}
-use Rattle.rules.specs.Rules.{afterWords, afterSentences, ruled, ruledIn, definitionsIn, ruledAs, Held, held-not, held-all}
-use Rattle.rules.proofs.Rulings.{ruled-enough}
-use Rattle.sensible.specs.Sensible.{SensibleMeaning}
+use Rattle.rules.specs.Rules.{afterWords, afterSentences, ruled, ruledAs, Held, held-all}
 use Rattle.sensible.proofs.Sensible.{judge-sensible}
 use Rattle.rows.specs.Rows.{Entry, Tables, Map, registerTable, pathTable, fieldTable, labelTable, tables, tablesOf}
 use Rattle.faithful.specs.Sound.{fieldsIn}
 use Rattle.layout.specs.Layout.{modeOf}
 use Rattle.shapes.specs.declared.Extent.{Extent}
 use Rattle.shapes.specs.Ready.{known, Ready}
-use Rattle.shapes.specs.Shapes.{ShapesIn, allShapes}
-use Rattle.map.specs.Whole.{tooMany, tooClose, misplaced, overlapping, mapShapes, mapVisits, mapFault, fieldsAmong}
+use Rattle.shapes.specs.Shapes.{shapeCells, allShapes}
+use Rattle.shapes.proofs.Laws.{shapes-stored}
+use Rattle.map.specs.Whole.{tooMany, tooClose, misplaced, overlapping, mapShapes, mapVisits, mapFault}
 use Rattle.walk.specs.declared.Surveyed.{Surveyed}
 use Rattle.walk.specs.declared.Surveyed.the-variants as surveyed
-use Rattle.walk.specs.Walks.{elementsOf, registersOf, surveyFault, Surveys, survey-fault, survey-fine}
+use Rattle.walk.specs.Runs.{logSize}
+use Rattle.walk.specs.Walks.{Shaped, elementsOf, registersOf, surveyFault, surveyOf, loggedIn}
+use Rattle.walk.proofs.Surveys.{FineSurvey, survey-fault, survey-fine}
 use Rattle.overlaps.specs.Charted.{Charted}
 use Rattle.title.specs.Title.{titleIn}
 use Rattle.writing.specs.Entries.{bytesIn}
 use Rattle.writing.specs.Writes.{entriesIn}
 use Rattle.compile.proofs.Counts.{entries-counted, fields-among}
 use Rattle.compile.specs.declared.Compiled.{Compiled}
-use Rattle.compile.specs.Compiled.{mapOf, mapped, compiled, refused, answered, lentAfter}
+use Rattle.compile.specs.declared.Compiled.the-variants.{Accepted}
+use Rattle.compile.specs.Compiled.{mapOf, mapped, compiled, isShort, refused, answered, lentAfter, compiledNumbers, answeredNumbers}
 use Rattle.compile.specs.Stages.{meaningIn, Filed, FiledIn, Charts, charts-fault, charts-fine}
 
 -- a refusal is answered, and nothing lent changes
@@ -62,6 +62,21 @@ module _ (lent : Tables) {j : Judged Map} {n p : ℕ} (e : j ≡ fault n p) wher
   pub refused-lent : lent ≡ lentAfter lent j
   unfolding lentAfter
   refused-lent = ap (lentAfter lent) (sym e)
+
+-- an answer and the tables, with the answer in document 01's numbers
+pub compiled-told : (lent : Tables) (j : Judged Map) {r : Compiled} {u : Tables} → r ≡ answered lent j → u ≡ lentAfter lent j
+    → (r ≡ answered lent j) × ((u ≡ lentAfter lent j) × (compiledNumbers r ≡ answeredNumbers lent j))
+unfolding answered
+compiled-told lent j e f = (e, (f, ap compiledNumbers e ∙ by j))
+  where
+    counted : (b : Bool) (m : Map) → compiledNumbers (if b then refused 22 0 else Accepted (length (m .entries)) (fieldsIn (m .entries)))
+        ≡ (if b then (22 ∷ 0 ∷ 0 ∷ 0 ∷ []) else (0 ∷ 0 ∷ length (m .entries) ∷ fieldsIn (m .entries) ∷ []))
+    counted true m = refl
+    counted false m = refl
+
+    by : (k : Judged Map) → compiledNumbers (answered lent k) ≡ answeredNumbers lent k
+    by (fault n p) = refl
+    by (fine m) = counted (isShort lent (tablesOf m)) m
 
 -- what a ruled text was
 pub record Parsing (text : List ℕ) (m : Meaning) : Type 0 where
@@ -83,29 +98,26 @@ parsing-of text {m} e = worded (wordsVerdict text) e
     worded (verdict.Refused n p) j = absurd (let z : _≡_ {A = ℕ} 0 1 = cc in omega arith)
 
 -- the rules stage
-module _ (text t : List ℕ) {n : ℕ} (long : size ≤ n) (r : Ruling) (e : ruledAs text t r ≡ ruledIn n text) where
-  was-ruled : ruledAs text t r ≡ ruled text
-  was-ruled = e ∙ sym (ruled-enough text n long)
-
+module _ (text t : List ℕ) (r : Ruling) (e : ruledAs text t r ≡ ruled text) where
   pub compiled-fault : {m p : ℕ} → r ≡ ruling.Fault m p → compiled text ≡ fault m p
   unfolding compiled onward
-  compiled-fault f = ap (λ (j : Judged Meaning). onward j (mapped text)) (sym was-ruled ∙ ap (ruledAs text t) f)
+  compiled-fault f = ap (λ (j : Judged Meaning). onward j (mapped text)) (sym e ∙ ap (ruledAs text t) f)
 
-  module _ {row closed filed : ℕ} (f : r ≡ ruling.Map row closed filed) where
+  module _ {row closed : ℕ} (f : r ≡ ruling.Map row closed) where
     ruled-map : ruled text ≡ fine (meaningIn text t row closed)
-    ruled-map = sym was-ruled ∙ ap (ruledAs text t) f
+    ruled-map = sym e ∙ ap (ruledAs text t) f
 
     pub compiled-map : compiled text ≡ mapped text (meaningIn text t row closed)
     unfolding compiled mapped onward
     compiled-map = ap (λ (j : Judged Meaning). onward j (mapped text)) ruled-map
 
-    pub filed-map : Held text t r → Filed text t row closed filed
+    pub filed-map : Held text t r → Filed text t row closed
     filed-map h = by (subst (Held text t) f h)
       where
-        by : Held text t (ruling.Map row closed filed) → Filed text t row closed filed
-        by (held-all few room holds) =
+        by : Held text t (ruling.Map row closed) → Filed text t row closed
+        by (held-all few holds) =
             let q = parsing-of text ruled-map in
-            record { few = few; room = room; holds = holds; sensible = judge-sensible text (q .tree) (q .judged); tree = q .tree; end = q .end; parsed = q .parsed }
+            record { few = few; holds = holds; sensible = judge-sensible text (q .tree) (q .judged); tree = q .tree; end = q .end; parsed = q .parsed }
 
 -- the whole map's faults, those of the survey first
 first-regrouped : (a b c d : Fault) → firstOf a (firstOf b (firstOf c d)) ≡ firstOf (firstOf a (firstOf b c)) d
@@ -121,27 +133,31 @@ first-broken b e = ap (λ (x : Fault). firstOf x b) e
 
 -- the map in a row of the cells, in its mode
 abbrev inMode : Extent → ℕ → Extent
-inMode e k = record { rows = e .rows; filed = e .filed; mode = k }
+inMode e k = record { rows = e .rows; mode = k }
 
 abbrev meaning : List ℕ → List ℕ → Extent → ℕ → Meaning
 meaning text t e row = meaningIn text t row (e .rows)
 
-module _ (text t : List ℕ) (row closed filed : ℕ) (f : Filed text t row closed filed) where
+module _ (text t : List ℕ) (row closed : ℕ) (f : Filed text t row closed) where
   pub row-low : row < closed
   row-low = omega (arith, f .sensible .low, f .holds .count)
 
   pub row-few : row < 256
   row-few = omega (arith, row-low, f .few)
 
-  pub filed-in : {c : Component} {mode : ℕ} → c ≡ componentIn t row → mode ≡ modeOf c → FiledIn text t (record { rows = closed; filed = filed; mode = mode }) row
+  pub filed-in : {c : Component} {mode : ℕ} → c ≡ componentIn t row → mode ≡ modeOf c → FiledIn text t (record { rows = closed; mode = mode }) row
   filed-in e q = record { filed = f; mode = q ∙ ap modeOf e }
 
 module _ (text t : List ℕ) (e : Extent) (row : ℕ) (g : FiledIn text t e row) where
   pub map-low : row < e .rows
-  map-low = row-low text t row (e .rows) (e .filed) (g .filed)
+  map-low = row-low text t row (e .rows) (g .filed)
 
   pub is-ready : Ready text t e
-  is-ready = record { few = g .filed .few; room = g .filed .room; holds = g .filed .holds; sensible = g .filed .sensible .table }
+  is-ready = record { few = g .filed .few; holds = g .filed .holds; sensible = g .filed .sensible .table }
+
+  -- the shapes in the cells
+  pub shaped : {s : List ℕ} (rest : List ℕ) → s ≡ shapeCells (allShapes text t e) ++ rest → Shaped text t s e
+  shaped rest f = record { ready = is-ready; shapes = shapes-stored text t e is-ready rest f }
 
   mode-is : modeOf (definitionOf (known text t e) row .component) ≡ e .mode
   mode-is = sym (g .mode ∙ ap modeOf (g .filed .holds .each row map-low .component))
@@ -166,42 +182,31 @@ module _ (text t : List ℕ) (e : Extent) (row : ℕ) (g : FiledIn text t e row)
   mapped-sound z = ap (λ (x : Fault). found x (fine (mapOf text (meaning text t e row)))) z
 
   -- the survey
-  module _ {log : List ℕ} {s : Surveyed} (v : Surveys text t log e row s) where
-    pub survey-refuses : {n p : ℕ} → s ≡ surveyed.Fault n p → {shapes : List ℕ} → Charts text t shapes log e row (surveyed.Fault n p)
-    survey-refuses {n} {p} z = charts-fault (mapped-broken (by (subst (Surveys text t log e row) z v)))
-      where
-        by : Surveys text t log e row (surveyed.Fault n p) → mapFault (meaning text t e row) ≡ Broken n p
-        by (survey-fault x) = fault-of ∙ first-broken _ x
+  module _ {s : Surveyed} (v : s ≡ surveyOf text t e row) where
+    pub survey-refuses : {n p : ℕ} → s ≡ surveyed.Fault n p → {shapes log : List ℕ} → Charts text t shapes log e row (surveyed.Fault n p)
+    survey-refuses z = charts-fault (mapped-broken (fault-of ∙ first-broken _ (survey-fault text t e row (sym z ∙ v))))
 
-    module _ {registers fields : ℕ} (z : s ≡ surveyed.Fine registers fields) where
-      fine-survey : Surveys text t log e row (surveyed.Fine registers fields)
-      fine-survey = subst (Surveys text t log e row) z v
+    module _ (before : List ℕ) {log : List ℕ} (l : log ≡ loggedIn text t before e row) (long : logSize ≤ length before) {registers fields : ℕ} (z : s ≡ surveyed.Fine registers fields) where
+      fine-survey : FineSurvey text t log e row registers fields
+      fine-survey = survey-fine text t e row before (sym z ∙ v) long l
 
-      pub survey-charts : {shapes : List ℕ} → ShapesIn shapes (e .rows) (allShapes text t e) → Charted text t shapes log e row × (registers ≡ length (registersOf text t e row))
-      survey-charts {shapes} h = by fine-survey
-        where
-          by : Surveys text t log e row (surveyed.Fine registers fields) → Charted text t shapes log e row × (registers ≡ length (registersOf text t e row))
-          by (survey-fine x a b c d l) = (record { shaped = record { ready = is-ready; shapes = h }; low = map-low; logs = l; few = omega (arith, a, b); sound = x }, a)
-
-      survey-sound : surveyFault (known text t e) (allShapes text t e) (elementsOf text t e row) ≡ Sound
-      survey-sound = by fine-survey
-        where
-          by : Surveys text t log e row (surveyed.Fine registers fields) → surveyFault (known text t e) (allShapes text t e) (elementsOf text t e row) ≡ Sound
-          by (survey-fine x a b c d l) = x
+      pub survey-charts : {shapes : List ℕ} → Shaped text t shapes e → Charted text t shapes log e row × (registers ≡ length (registersOf text t e row))
+      survey-charts h =
+          let f = fine-survey in
+          (record { shaped = h; low = map-low; logs = f .logs; few = omega (arith, f .registers-are, f .registers-few); sound = f .sound }, f .registers-are)
 
       -- 21
       module _ {o : Fault} (y : o ≡ overlapping (known text t e) (allShapes text t e) [] (elementsOf text t e row)) where
         overlap-last : mapFault (meaning text t e row) ≡ o
-        overlap-last = fault-of ∙ first-sound _ survey-sound ∙ sym y
+        overlap-last = fault-of ∙ first-sound _ (fine-survey .sound) ∙ sym y
 
         pub overlap-refuses : {n p : ℕ} → o ≡ Broken n p → {shapes : List ℕ} → Charts text t shapes log e row (surveyed.Fault n p)
         overlap-refuses w = charts-fault (mapped-broken (overlap-last ∙ w))
 
-        pub overlap-passes : o ≡ Sound → {shapes : List ℕ} → ShapesIn shapes (e .rows) (allShapes text t e) → Charts text t shapes log e row (surveyed.Fine registers fields)
-        overlap-passes w {shapes} h = by fine-survey
-          where
-            by : Surveys text t log e row (surveyed.Fine registers fields) → Charts text t shapes log e row (surveyed.Fine registers fields)
-            by (survey-fine x a b c d l) = charts-fine (mapped-sound (overlap-last ∙ w)) (survey-charts h .0) a b c d
+        pub overlap-passes : o ≡ Sound → {shapes : List ℕ} → Shaped text t shapes e → Charts text t shapes log e row (surveyed.Fine registers fields)
+        overlap-passes w h =
+            let f = fine-survey in
+            charts-fine (mapped-sound (overlap-last ∙ w)) (survey-charts h .0) (f .registers-are) (f .registers-few) (f .fields-are) (f .fields-few)
 
   -- the rows that are written
   same-entries : mapOf text (meaning text t e row) .entries ≡ entriesIn text t e row

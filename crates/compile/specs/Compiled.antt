@@ -1,6 +1,6 @@
 -- The compiler on one page: the refusals 1 to 22 in document 01's order, and the rows of an accepted text.
 use mathlib.Core.Bool.{Bool, _||_}
-use mathlib.Core.List.{List, _++_}
+use mathlib.Core.List.{List, [], _∷_, _++_}
 use Prim.Native.Nat.{ℕ}
 use lib.Dec.{ltb}
 use lib.ListN.{length, drop}
@@ -61,13 +61,12 @@ unfoldable pub lentAfter : Tables → Judged Map → Tables
 lentAfter lent (fault n p) = lent
 lentAfter lent (fine m) = if isShort lent (tablesOf m) then lent else overAll (tablesOf m) lent
 
--- an answer in document 01's numbers: the refusal or 0, its place, and the counts of rows, 0 where it is refused
-pub record Numbers : Type 0 where
-  pub refusal : ℕ
-  pub place : ℕ
-  pub registers : ℕ
-  pub fields : ℕ
+-- an answer in document 01's numbers: the refusal or 0, its place, and the counts of register rows and field rows, 0 where it is refused
+abbrev pub compiledNumbers : Compiled → List ℕ
+compiledNumbers (Refused n p) = n ∷ p .at ∷ 0 ∷ 0 ∷ []
+compiledNumbers (Accepted r f) = 0 ∷ 0 ∷ r ∷ f ∷ []
 
-abbrev pub numbersOf : Compiled → Numbers
-numbersOf (Refused n p) = record { refusal = n; place = p .at; registers = 0; fields = 0 }
-numbersOf (Accepted r f) = record { refusal = 0; place = 0; registers = r; fields = f }
+-- the numbers of what is answered
+abbrev pub answeredNumbers : Tables → Judged Map → List ℕ
+answeredNumbers lent (fault n p) = n ∷ p ∷ 0 ∷ 0 ∷ []
+answeredNumbers lent (fine m) = if isShort lent (tablesOf m) then (22 ∷ 0 ∷ 0 ∷ 0 ∷ []) else (0 ∷ 0 ∷ length (m .entries) ∷ fieldsIn (m .entries) ∷ [])

@@ -13,7 +13,7 @@ use Rattle.rules.specs.Judge.{Meaning}
 use Rattle.rules.specs.Rules.{definitionsIn}
 use Rattle.sensible.specs.Sensible.{SensibleMeaning}
 use Rattle.properties.specs.Judged.{fault, fine}
-use Rattle.table.specs.Cells.{componentIn}
+use Rattle.table.specs.Cells.{filedRoom, componentIn}
 use Rattle.layout.specs.Layout.{modeOf}
 use Rattle.rows.specs.Limits.{registerLimit, fieldLimit}
 use Rattle.shapes.specs.declared.Extent.{Extent}
@@ -30,10 +30,9 @@ abbrev pub meaningIn : List ℕ → List ℕ → ℕ → ℕ → Meaning
 meaningIn text t row closed = record { table = definitionsIn text t 0 closed; map = row }
 
 -- cells that hold the definitions of a text which keeps the grammar and the rules
-pub record Filed (text t : List ℕ) (row closed filed : ℕ) : Type 0 where
+pub record Filed (text t : List ℕ) (row closed : ℕ) : Type 0 where
   pub few : closed ≤ 256
-  pub room : filed ≤ 32768
-  pub holds : Holds text t closed filed (definitionsIn text t 0 closed)
+  pub holds : Holds text t closed filedRoom (definitionsIn text t 0 closed)
   pub sensible : SensibleMeaning (meaningIn text t row closed)
   pub tree : Body
   pub end : ℕ
@@ -41,7 +40,7 @@ pub record Filed (text t : List ℕ) (row closed filed : ℕ) : Type 0 where
 
 -- the same, with the map's mode
 pub record FiledIn (text t : List ℕ) (e : Extent) (row : ℕ) : Type 0 where
-  pub filed : Filed text t row (e .rows) (e .filed)
+  pub filed : Filed text t row (e .rows)
   pub mode : e .mode ≡ modeOf (componentIn t row)
 
 -- the first fault of the whole map, or its registers in the log

@@ -10,8 +10,10 @@ ghost use mathlib.Core.Path.{_≡_};
 ghost use Prim.Native.Nat.{_*_, _<_, _≤_};
 ghost use lib.ListN.{length};
 ghost use Rattle.layout.specs.Layout.{modeOf};
+ghost use Rattle.shapes.specs.Shapes.{shapesSize};
+ghost use Rattle.walk.specs.Runs.{logSize};
 ghost use Rattle.rows.specs.Rows.{tables};
-ghost use Rattle.compile.specs.Compiled.{refused, mapped, compiled, answered, lentAfter};
+ghost use Rattle.compile.specs.Compiled.{refused, mapped, compiled, answered, lentAfter, compiledNumbers, answeredNumbers};
 ghost use Rattle.compile.specs.Stages.{Filed, FiledIn, Charts, meaningIn, hasRoom};
 
 // A refusal's number and place, or how many register rows and field rows were written.
@@ -63,7 +65,8 @@ fn is_room(
     all * rows::NAME_ROW <= labels
 }
 
-// The first fault of the map in a row by 18 to 21, or how many registers and fields it has, and its registers in the log.
+// The first fault of the map in a row by 18 to 21, or how many registers and fields it has. The shapes' cells then hold the shapes of all
+// definitions, and the log what the survey left there: all of the map's registers, but after an 18.
 fn judge_map(
     text: &[u8],
     cells: &[u64],
@@ -72,7 +75,7 @@ fn judge_map(
     extent: Extent,
     row: usize,
 ) -> Surveyed
-    requires { ⌜ FiledIn (now text) (now cells) extent row × (512 ≤ length (now shapes)) × (27648 ≤ length (now log)) ⌝ }
+    requires { ⌜ FiledIn (now text) (now cells) extent row × (shapesSize ≤ length (now shapes)) × (logSize ≤ length (now log)) ⌝ }
     ensures { λ r. ⌜ Charts (now (text .entry)) (now (cells .entry)) (now (shapes .exit)) (now (log .exit)) extent row r ⌝ }
 {
     shapes::fill_shapes(text, cells, shapes, extent);
@@ -140,24 +143,19 @@ fn compile_map(
     cells: &[u64],
     row: usize,
     closed: usize,
-    filed: usize,
     registers: &mut [u64],
     paths: &mut [u8],
     fields: &mut [u64],
     labels: &mut [u8],
 ) -> Compiled
-    requires { ⌜ Filed (now text) (now cells) row closed filed ⌝ }
+    requires { ⌜ Filed (now text) (now cells) row closed ⌝ }
     ensures answer { λ r. ⌜ r ≡ answered (tables (now (registers .entry)) (now (paths .entry)) (now (fields .entry)) (now (labels .entry))) (mapped (now (text .entry)) (meaningIn (now (text .entry)) (now (cells .entry)) row closed)) ⌝ }
     ensures lent { λ _. ⌜ tables (now (registers .exit)) (now (paths .exit)) (now (fields .exit)) (now (labels .exit)) ≡ lentAfter (tables (now (registers .entry)) (now (paths .entry)) (now (fields .entry)) (now (labels .entry))) (mapped (now (text .entry)) (meaningIn (now (text .entry)) (now (cells .entry)) row closed)) ⌝ }
 {
-    let mut shapes = [0u64; 512];
+    let mut shapes = [0u64; shapes::SHAPES_SIZE];
     let mut log = [0u64; walk::LOG_SIZE];
     let mode = mode_of(table::component_at(cells, row));
-    let extent = Extent {
-        rows: closed,
-        filed,
-        mode,
-    };
+    let extent = Extent { rows: closed, mode };
     match judge_map(text, cells, &mut shapes, &mut log, extent, row) {
         Surveyed::Fault(number, at) => refuse(number, at),
         Surveyed::Fine(count, all) => write_map(
@@ -187,22 +185,13 @@ pub fn compile(
 ) -> Compiled
     ensures answer { λ r. ⌜ r ≡ answered (tables (now (registers .entry)) (now (paths .entry)) (now (fields .entry)) (now (labels .entry))) (compiled (now (text .entry))) ⌝ }
     ensures lent { λ _. ⌜ tables (now (registers .exit)) (now (paths .exit)) (now (fields .exit)) (now (labels .exit)) ≡ lentAfter (tables (now (registers .entry)) (now (paths .entry)) (now (fields .entry)) (now (labels .entry))) (compiled (now (text .entry))) ⌝ }
+    ensures numbers { λ r. ⌜ compiledNumbers r ≡ answeredNumbers (tables (now (registers .entry)) (now (paths .entry)) (now (fields .entry)) (now (labels .entry))) (compiled (now (text .entry))) ⌝ }
 {
     let mut cells = [0u64; table::SIZE];
     match rules::define(text, &mut cells) {
         Ruling::Fault(number, at) => refuse(number, at),
-        Ruling::Map(row, closed, filed) => {
-            compile_map(
-                text,
-                &cells,
-                row,
-                closed,
-                filed,
-                registers,
-                paths,
-                fields,
-                labels,
-            )
+        Ruling::Map(row, closed) => {
+            compile_map(text, &cells, row, closed, registers, paths, fields, labels)
         }
     }
 }

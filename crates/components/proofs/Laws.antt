@@ -17,6 +17,7 @@ use Rattle.parts.specs.declared.Instance.{Instance}
 use Rattle.suffixes.specs.Suffixes.{firstOf, ranged, isSize, isRange, arrayFault, instanceFault}
 use Rattle.suffixes.specs.declared.Fault.{Fault}
 use Rattle.suffixes.specs.declared.Fault.the-variants.{Sound, Broken}
+use Rattle.components.specs.declared.BitPlace.{BitPlace}
 use Rattle.components.specs.declared.FieldType.{FieldType}
 use Rattle.components.specs.declared.FieldAt.{FieldAt}
 use Rattle.components.specs.Fields.{isReadable, isWritable, hasUnusableEffect, widthIn, highBit, isWide, isResetWide, isReadWritePair, isOverlap, spansParts}
@@ -166,7 +167,7 @@ width-sound (array.Range mark left right) e =
     let t : (right .value ≤ left .value) × (left .value < 64) = range-sound (left .value) (right .value) (left .place) e in
     (omega arith, omega arith)
 
-high-sound : (next : ℕ) (a : Array) → arrayFault true a ≡ Sound → highBit next a ≤ next + 63
+high-sound : (next : BitPlace) (a : Array) → arrayFault true a ≡ Sound → highBit next a .0 ≤ next .0 + 63
 high-sound next array.Missing e = omega arith
 high-sound next (array.Size mark n) e = omega (arith, size-sound (n .value) (n .place) e)
 high-sound next (array.Range mark left right) e = omega (arith, range-sound (left .value) (right .value) (left .place) e)
@@ -174,5 +175,5 @@ high-sound next (array.Range mark left right) e = omega (arith, range-sound (lef
 pub sound-width : (i : Instance) → instanceFault kind.Field i ≡ Sound → (1 ≤ widthIn (i .array)) × (widthIn (i .array) ≤ 64)
 sound-width i e = width-sound (i .array) (array-sound i e)
 
-pub sound-high : (next : ℕ) (i : Instance) → instanceFault kind.Field i ≡ Sound → highBit next (i .array) ≤ next + 63
+pub sound-high : (next : BitPlace) (i : Instance) → instanceFault kind.Field i ≡ Sound → highBit next (i .array) .0 ≤ next .0 + 63
 sound-high next i e = high-sound next (i .array) (array-sound i e)

@@ -35,15 +35,15 @@ widthIn (array.Size mark n) = n .value
 widthIn (array.Range mark left right) = suc (left .value) - right .value
 
 -- "Without a range, a field starts one above the previous declared field's top bit": `next` is that bit, "the first at 0"
-abbrev pub lowBit : ℕ → Array → ℕ
+abbrev pub lowBit : BitPlace → Array → BitPlace
 lowBit next array.Missing = next
 lowBit next (array.Size mark n) = next
-lowBit next (array.Range mark left right) = right .value
+lowBit next (array.Range mark left right) = record { 0 = right .value }
 
-abbrev pub highBit : ℕ → Array → ℕ
+abbrev pub highBit : BitPlace → Array → BitPlace
 highBit next array.Missing = next
-highBit next (array.Size mark n) = next + (n .value - 1)
-highBit next (array.Range mark left right) = left .value
+highBit next (array.Size mark n) = record { 0 = next .0 + (n .value - 1) }
+highBit next (array.Range mark left right) = record { 0 = left .value }
 
 -- "An instance reset beats the property"
 abbrev pub ownReset : Suffix → Given → Given
@@ -54,8 +54,8 @@ ownReset (suffix.Given mark n) type = Number (n .value)
 unfoldable pub fieldAt : BitPlace → Instance → FieldType → FieldAt
 fieldAt next i f =
     record {
-      low = record { 0 = lowBit (next .0) (i .array) };
-      high = record { 0 = highBit (next .0) (i .array) };
+      low = lowBit next (i .array);
+      high = highBit next (i .array);
       values = record { sw = f .sw; hw = f .hw; onread = f .onread; onwrite = f .onwrite; reset = ownReset (i .reset) (f .reset) };
     }
 

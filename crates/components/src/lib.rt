@@ -176,24 +176,24 @@ pub fn has_unusable_effect(field: FieldType) -> bool
     is_unusable(field.onwrite, is_writable(field))
 }
 
-fn low_bit(next: u64, array: Array) -> u64
+fn low_bit(next: BitPlace, array: Array) -> BitPlace
     ensures { λ r. ⌜ r ≡ lowBit next array ⌝ }
 {
     match array {
         Array::Missing => next,
         Array::Size(_, _) => next,
-        Array::Range(_, _, right) => right.value,
+        Array::Range(_, _, right) => BitPlace(right.value),
     }
 }
 
-fn high_bit(next: u64, array: Array) -> u64
-    requires { ⌜ (1 ≤ widthIn array) × (widthIn array ≤ 64) × (next < 4294967296) ⌝ }
+fn high_bit(next: BitPlace, array: Array) -> BitPlace
+    requires { ⌜ (1 ≤ widthIn array) × (widthIn array ≤ 64) × (next .0 < 4294967296) ⌝ }
     ensures { λ r. ⌜ r ≡ highBit next array ⌝ }
 {
     match array {
         Array::Missing => next,
-        Array::Size(_, size) => next + (size.value - 1),
-        Array::Range(_, left, _) => left.value,
+        Array::Size(_, size) => BitPlace(next.0 + (size.value - 1)),
+        Array::Range(_, left, _) => BitPlace(left.value),
     }
 }
 
@@ -222,9 +222,11 @@ pub fn field_at(next: BitPlace, instance: Instance, field: FieldType) -> FieldAt
         onwrite: field.onwrite,
         reset,
     };
-    let low = BitPlace(low_bit(next.0, array));
-    let high = BitPlace(high_bit(next.0, array));
-    FieldAt { low, high, values }
+    FieldAt {
+        low: low_bit(next, array),
+        high: high_bit(next, array),
+        values,
+    }
 }
 
 // Where an instance starts, if its `@` says so.

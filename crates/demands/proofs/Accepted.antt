@@ -11,29 +11,23 @@ use Rattle.properties.specs.Judged.{Judged, fault, fine}
 use Rattle.rows.specs.Rows.{Map, Tables, registerTable, pathTable, fieldTable, labelTable, tablesOf}
 use Rattle.faithful.specs.Sound.{fieldsIn}
 use Rattle.faithful.proofs.Tables.{length-registerTable, length-pathTable, length-fieldTable, length-labelTable}
-use Rattle.rows.specs.Lawful.{lawful}
 use Rattle.compile.specs.declared.Compiled.the-variants.{Accepted}
 use Rattle.compile.specs.Compiled.{compiled, isShort, refused, answered, over, overAll, lentAfter}
 use Rattle.lawful.proofs.Lawful.{accepted-lawful, accepted-read}
-use Rattle.model.specs.Model.{fits}
-use Rattle.access.specs.Stored.{storedOf, storedFields, deviceIn}
-use Rattle.access.specs.Perform as access
-use Rattle.access.specs.Perform.{resetRefusal, storeReset}
-use Rattle.access.proofs.Stores.{stored-reset-fits}
+use Rattle.model.specs.Model.{Words}
+use Rattle.access.specs.Stored.{storedOf, storedFields}
+use Rattle.access.specs.Perform.{resetRefusal, storeReset, Fitting}
+use Rattle.access.proofs.Calls.{reset-fitting}
 use Rattle.demands.specs.Demands.{RowsOf, firstRows, Demand3}
 use Rattle.demands.proofs.Rows.{demand-3}
-
--- the store after a reset that is not refused fits
-pub reset-fits : (t : Tables) → lawful t ≡ true → (s : List ℕ) → access.isShort t s ≡ false → fits (deviceIn t .sizes) (storeReset t s) ≡ true
-unfolding storeReset resetRefusal
-reset-fits t e s room = rw (e, room) (stored-reset-fits t e (drop (length (deviceIn t .sizes)) s))
 
 -- the stored fields of the rows of an accepted text are those of its map
 pub accepted-stored : (text : List ℕ) (m : Map) → compiled text ≡ fine m → storedFields (tablesOf m) ≡ storedOf m
 accepted-stored text m e = ap storedOf (accepted-read text m e)
 
-pub accepted-reset : (text : List ℕ) (m : Map) → compiled text ≡ fine m → (s : List ℕ) → access.isShort (tablesOf m) s ≡ false → fits (deviceIn (tablesOf m) .sizes) (storeReset (tablesOf m) s) ≡ true
-accepted-reset text m e s room = reset-fits (tablesOf m) (accepted-lawful text m e) s room
+-- the store that an answered reset leaves fits
+pub accepted-reset : (text : List ℕ) (m : Map) → compiled text ≡ fine m → (s : List ℕ) → Words s → resetRefusal (tablesOf m) s ≡ 0 → Fitting (tablesOf m) (storeReset (tablesOf m) s)
+accepted-reset text m e = reset-fitting (tablesOf m) (accepted-lawful text m e)
 
 pub accepted-demand-3 : (text : List ℕ) (m : Map) → compiled text ≡ fine m → Demand3 (tablesOf m)
 accepted-demand-3 text m e = demand-3 (tablesOf m) (accepted-lawful text m e)

@@ -30,7 +30,7 @@ use Rattle.rules.specs.Judge.{judgeInstances, judgeUse, judgeSetting, closed, d
 use Rattle.offsets.specs.Offsets.{larger, raised, multipleFrom, commonMultiple, powerFrom, powerAbove}
 use Rattle.layout.specs.Layout.{strideOf, spanOf, modeStep, stepOf, laid, laidFrom, highestEnd, largestAccess, shapesFrom}
 use Rattle.map.specs.Visits.{elementVisits, childVisits, visitsIn}
-use Rattle.map.specs.Whole.{tooMany, tooClose, misplaced, everyAccess, isPair, isSharedLawfully, overlapRegisters, overlapsOne, overlapping, mapFault, registersAmong}
+use Rattle.map.specs.Whole.{tooMany, tooClose, misplaced, everyAccess, isPair, isSharedLawfully, overlapRegisters, overlapsOne, overlapping, mapVisits, mapFault, registersAmong}
 use lib.ListN.{take}
 use Rattle.lex.specs.Words.{firstBad, wordsVerdict}
 use Rattle.rules.specs.Rules.{ruled}
@@ -38,7 +38,7 @@ use Rattle.title.specs.Title.{titleOf}
 use Rattle.writing.specs.Entries.{stepsOf, rowFields, entriesOf}
 use Rattle.compile.specs.Compiled.{compiled}
 use Rattle.compile.specs.Compiled as compile
-use Rattle.rows.specs.Rows.{Field, Entry, Map, tablesOf, padded, indices, nameCells, registerCells, pathCells, fieldCells, fieldRun, labelRun, registerTable, pathTable, fieldTable, labelTable}
+use Rattle.rows.specs.Rows.{Field, Entry, tablesOf, padded, indices, nameCells, registerCells, pathCells, fieldCells, fieldRun, labelRun, registerTable, pathTable, fieldTable, labelTable}
 use Rattle.rows.specs.Lawful.{follows, allFollow, isPathCell, areNames, areZero, isIndex, areIndices, areSame, registerRow, isPlaced, isRun, isPath, fieldValues, fieldRow, isRanged, isSoundField, isResetForm, isFieldRow, areFieldRows, isRegisterRow, areRows, areWhole, lawful}
 use Rattle.rows.specs.Lawful as rows
 use Rattle.rows.specs.Reading.{nameFrom, stepsFrom, entriesFrom}
@@ -53,9 +53,10 @@ use Rattle.model.specs.Model.{fits, stepped, anyReached, gives}
 use Rattle.access.specs.Stored.{storedIn, storedAmong, sizesOf}
 use Rattle.access.specs.Perform.{refusalOf, answerOf, storeAfter, storeAfterAll, answersOf}
 
--- what is asked of a text: the addresses of its map's first registers; the bits of the fields of the first register, each high and low; or
--- what accesses answer from a store, and the store afterwards
+-- what is asked of a text: the addresses of its map's elements, in map order, before 18 to 21 are judged; those of its map's first
+-- registers; the bits of the fields of the first register, each high and low; or what accesses answer from a store, and the store afterwards
 pub data Question : Type 0 where
+  elements : Question
   addresses : ℕ → Question
   bits : Question
   accesses : List ℕ → List Access → Question
@@ -73,14 +74,16 @@ abbrev firstFields : List Entry → List Field
 firstFields [] = []
 firstFields (e ∷ es) = e .fields
 
-abbrev asked : Question → Map → Result
-asked (addresses n) m = numbers (map (λ e. e .address .0) (take n (m .entries)))
-asked bits m = numbers (pairs (firstFields (m .entries)))
-asked (accesses s xs) m = answered (answersOf (tablesOf m) xs s) (storeAfterAll (tablesOf m) xs s)
+-- a refusal with its place, or what is said of what is accepted
+abbrev judged : {A : Type 0} → Judged A → (A → Result) → Result
+judged (fault n p) said = refused n p
+judged (fine a) said = said a
 
-abbrev answer : Question → Judged Map → Result
-answer q (fault n p) = refused n p
-answer q (fine m) = asked q m
+abbrev answer : Question → List ℕ → Result
+answer elements text = judged (ruled text) (λ m. numbers (map (λ v. v .address .0) (mapVisits m)))
+answer (addresses n) text = judged (compiled text) (λ m. numbers (map (λ e. e .address .0) (take n (m .entries))))
+answer bits text = judged (compiled text) (λ m. numbers (pairs (firstFields (m .entries))))
+answer (accesses s xs) text = judged (compiled text) (λ m. answered (answersOf (tablesOf m) xs s) (storeAfterAll (tablesOf m) xs s))
 
 pub record Sum : Type 0 where
   pub text : String
@@ -107,6 +110,7 @@ sums =
     sum "addrmap m { addressing=fullalign; reg wide {regwidth=64; field {} f;}; reg thin {field {} f;}; thin a; wide b; thin c[20]; };" (addresses 3) (numbers (0 ∷ 8 ∷ 128 ∷ [])) ∷
     sum "addrmap m { addressing=compact; reg wide {regwidth=64; accesswidth=32; field {} f;}; reg thin {field {} f;}; thin a; wide b; thin c[20]; };" (addresses 3) (numbers (0 ∷ 4 ∷ 12 ∷ [])) ∷
     sum "addrmap m { alignment=8; reg thin {field {} f;}; thin a; thin b; };" (addresses 2) (numbers (0 ∷ 8 ∷ [])) ∷
+    sum "addrmap m { regfile { reg {regwidth=64; field {} f;} a; reg {field {} f;} b; } x[2]; };" elements (numbers (0 ∷ 0 ∷ 8 ∷ 12 ∷ 12 ∷ 20 ∷ [])) ∷
     sum "addrmap m { regfile { reg {regwidth=64; field {} f;} a; reg {field {} f;} b; } x[2]; };" (addresses 4) (refused 20 53) ∷
     sum "addrmap m { reg { field {} a[4]; field {} b[9:8]; field {} c; } x; };" bits (numbers (3 ∷ 0 ∷ 9 ∷ 8 ∷ 10 ∷ 10 ∷ [])) ∷
     sum heron (accesses (5 ∷ 0 ∷ []) (reading ∷ reading ∷ [])) (answered (Word 5 ∷ Word 0 ∷ []) (0 ∷ 0 ∷ [])) ∷
@@ -115,6 +119,6 @@ sums =
     sum "addrmap m { reg { regwidth=32; accesswidth=64; field {} f; } x; };" (addresses 1) (refused 14 59) ∷
     []
 
-pub worked : map (λ s. answer (s .question) (compiled (bytes (s .text)))) sums ≡ map (λ s. s .due) sums
+pub worked : map (λ s. answer (s .question) (bytes (s .text))) sums ≡ map (λ s. s .due) sums
 unfolding sums registersAmong isPair isWithin isBlank isLineEnd isLetter isNameByte isNumberByte isHexDigit isSpacedDigit run every sameBytes chosen entry keywordOf propertyOf markOf digitValue nextValue valueFrom fitting radixOf plainDigits spacedDigits widthOf sizedNumber sizedAt hexPrefixed hexNumber numberOf blanks nextFrom closes closing nameWord nameToken numberToken stringToken markToken tokenFrom tokenAt andThen mapped isName kindOf isKind isDefault isProperty isMark isEnd closedBy nameAt numberAt arrayRestAt arrayAt suffixAt setSuffix withSuffix bareAt instanceAt partedAt listedAt valueAt settingAt propertyWordAt propertyAt headerRestAt headerAt startsInstances instancesFrom instancesAt instanceStatementAt statementAt tailAt elementAt elementsAt definitionWith definitionAt definitionsFrom fileAt isAllowed isWidth isPowerTo settingAs settingOf ranged isSize isRange suffixRange isBarred instanceFault bytesOf sameName isAmong isReadable isWritable hasUnusableEffect some isResetWide isOutside isReadWritePair isOverlap overlaps spansParts onward unless lookup mayDefine mayHold isBadMap assigned judgeValue judgeKnown judgeProperty judgeInstances judgeUse declared judgeDefinition judgeElem judgeBody judgeFile judge assign nearest componentOf fieldAt breaks fieldsFrom registerFault closingFault judgeSetting closed raised multipleFrom commonMultiple powerFrom powerAbove larger strideOf spanOf modeStep stepOf laid laidFrom highestEnd largestAccess shapesFrom elementVisits childVisits visitsIn tooMany tooClose misplaced everyAccess isSharedLawfully overlapRegisters overlapsOne overlapping mapFault heron reading lighting firstBad wordsVerdict ruled titleOf stepsOf rowFields entriesOf compile.mapped compiled padded indices nameCells registerCells pathCells fieldCells fieldRun labelRun registerTable pathTable fieldTable labelTable follows allFollow rows.isName isPathCell areNames areZero isIndex areIndices areSame registerRow isPlaced isRun isPath fieldValues fieldRow isRanged isSoundField isResetForm isFieldRow areFieldRows isRegisterRow areRows areWhole lawful nameFrom stepsFrom reading-rows.fieldsFrom entriesFrom bit number writeAction readAction fits stepped anyReached gives storedIn storedAmong sizesOf refusalOf answerOf storeAfter storeAfterAll answersOf
 worked = refl

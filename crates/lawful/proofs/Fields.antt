@@ -56,7 +56,7 @@ module _ (next : BitPlace) (i : Instance) (f : FieldType) where
   effect-usable table cs e = none-test 11 0 (hasUnusableEffect f) e
 
 -- "left not below right"
-bits-order : (next : ℕ) (a : Array) → 1 ≤ widthIn a → lowBit next a ≤ highBit next a
+bits-order : (next : BitPlace) (a : Array) → 1 ≤ widthIn a → lowBit next a .0 ≤ highBit next a .0
 bits-order next array.Missing h = omega arith
 bits-order next (array.Size mark n) h = omega arith
 bits-order next (array.Range mark left right) h = omega (arith, h)
@@ -64,7 +64,7 @@ bits-order next (array.Range mark left right) h = omega (arith, h)
 module _ (next : BitPlace) (i : Instance) (f : FieldType) where
   bits-rise : instanceFault kind.Field i ≡ Sound → leb (fieldAt next i f .low .0) (fieldAt next i f .high .0) ≡ true
   unfolding fieldAt
-  bits-rise e = le-leb (lowBit (next .0) (i .array)) (highBit (next .0) (i .array)) (bits-order (next .0) (i .array) (sound-width i e .0))
+  bits-rise e = le-leb (lowBit next (i .array) .0) (highBit next (i .array) .0) (bits-order next (i .array) (sound-width i e .0))
 
 -- what is asked of a field, by the rules' numbers
 field-holds : (width : ℕ) (g : FieldAt) → leb (g .low .0) (g .high .0) ≡ true → isOutside width g ≡ false → hasUnusableEffect (g .values) ≡ false → isResetWide g ≡ false → isSoundField width g ≡ true

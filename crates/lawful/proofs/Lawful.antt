@@ -16,7 +16,7 @@ use Rattle.rules.specs.Judge.{Meaning}
 use Rattle.rules.specs.Rules.{ruled}
 use Rattle.sensible.specs.Sensible.{SensibleMeaning}
 use Rattle.sensible.proofs.Sensible.{judge-sensible}
-use Rattle.layout.specs.Layout.{modeOf}
+use Rattle.layout.specs.Layout.{bottom, modeOf}
 use Rattle.rows.specs.Limits.{nestLimit}
 use Rattle.rows.specs.Rows.{Map, tablesOf}
 use Rattle.rows.specs.Lawful.{lawful}
@@ -69,7 +69,7 @@ module _ (text : List ℕ) (m : Meaning) (s : SensibleMeaning m) (n : NamedMeani
 
   one-register : Has (m .table) (mapVisits m)
   one-register =
-      visits-reach (m .table) (mapShapes m) (modeOf (definitionOf (m .table) (m .map) .component)) (suc nestLimit) (m .map) 0 [] (s .table) (s .low)
+      visits-reach (m .table) (mapShapes m) (modeOf (definitionOf (m .table) (m .map) .component)) (suc nestLimit) (m .map) bottom [] (s .table) (s .low)
       (map-group (definitionOf (m .table) (m .map) .component) (s .map)) (omega arith) (omega arith) all-short
 
   meaning-sound : SoundMap (mapOf text m)

@@ -5,3 +5,4 @@ pub mod Fields
 pub mod Registers
 pub mod Reaching
 pub mod Lawful
+pub mod Firsts

@@ -2,7 +2,7 @@
 use mathlib.Core.Path.{_≡_, refl}
 use mathlib.Core.Bool.{Bool, true, false, _||_}
 use mathlib.Core.List.{List, [], _∷_, _++_}
-use Prim.Native.Nat.{ℕ, zero, suc, _+_, _*_, _<_, _≤_}
+use Prim.Native.Nat.{ℕ, zero, suc, _+_, _<_, _≤_}
 use native.Mathlib.Omega.{arith}
 use lib.Dec.{ltb}
 use lib.ListN.{length}
@@ -15,6 +15,7 @@ use Rattle.settings.specs.Settings.{isField}
 use Rattle.suffixes.specs.declared.Fault.the-variants.{Sound}
 use Rattle.properties.specs.declared.Given.{Given}
 use Rattle.components.specs.Components.{kindOf}
+use Rattle.components.specs.declared.Offset.{Offset}
 use Rattle.components.specs.declared.Component.{Component}
 use Rattle.components.specs.declared.Component.the-variants as component
 use Rattle.table.specs.Definitions.{Child, Definition, definitionOf}
@@ -29,7 +30,7 @@ use Rattle.shapes.specs.Shapes.{GroupOf, of-regfile, of-map}
 use Rattle.shapes.proofs.Rows.{RowFits, row-fits, held-addressed}
 use Rattle.rows.specs.Limits.{nestLimit, registerLimit, fieldLimit}
 use Rattle.faithful.specs.Sound.{All}
-use Rattle.map.specs.Visits.{PathStep, Visit, indexIn, isGroup, elementVisits, childVisits, ofGroup, visitsIn}
+use Rattle.map.specs.Visits.{PathStep, Visit, indexIn, isGroup, addressOf, elementVisits, childVisits, ofGroup, visitsIn}
 use Rattle.map.specs.Whole.{isRegister, isRegisterVisit, tooMany, registersAmong, fieldsAmong}
 use Rattle.lawful.proofs.Lists.{all-first, all-rest, all-left, none-test}
 
@@ -56,8 +57,8 @@ has-by table v vs true e h = has-here e
 has-by table v vs false e h = has-later (h e)
 
 -- the first element of an instance is a register, or its content has one
-elements-reach : (table : List Definition) (content : ℕ → List PathStep → List Visit) (path : List PathStep) (c : Child) (base : ℕ) (s : Shape) (l : Laid) (k n : ℕ) → 1 ≤ n
-    → ((address : ℕ) (here : List PathStep) → length here ≡ suc (length path) → length here ≤ 8 → All Short (content address here)
+elements-reach : (table : List Definition) (content : Offset → List PathStep → List Visit) (path : List PathStep) (c : Child) (base : Offset) (s : Shape) (l : Laid) (k n : ℕ) → 1 ≤ n
+    → ((address : Offset) (here : List PathStep) → length here ≡ suc (length path) → length here ≤ 8 → All Short (content address here)
     → isRegister (definitionOf table (c .type) .component) ≡ false → Has table (content address here))
     → All Short (elementVisits content path c base s l k n) → Has table (elementVisits content path c base s l k n)
 unfolding elementVisits
@@ -65,7 +66,7 @@ elements-reach table content path c base s l k zero h inner a = absurd (omega ar
 elements-reach table content path c base s l k (suc n) h inner a =
     let step : PathStep = record { name = c .instance .name; index = indexIn (c .instance .array) k } in
     let here : List PathStep = path ++ (step ∷ []) in
-    let address : ℕ = base + (l .start .0 + l .stride * k) in
+    let address : Offset = addressOf base l k in
     let more : List Visit = elementVisits content path c base s l (suc k) n in
     let b : All Short (content address here) = all-left (content address here) more (all-rest a) in
     has-by table _ (content address here ++ more) (isRegister (definitionOf table (c .type) .component)) refl
@@ -89,9 +90,9 @@ unfolding closingFault
 group-full table cs of-regfile e = none-test 9 0 (isEmpty cs) e
 group-full table cs of-map e = none-test 9 0 (isEmpty cs) e
 
-children-reach : (table before : List Definition) (h : Component) (content : ℕ → ℕ → List PathStep → List Visit) (shapes : List Shape) (path : List PathStep) (mode base : ℕ) (al : Given) {a : Given} {cs : List Child}
+children-reach : (table before : List Definition) (h : Component) (content : ℕ → Offset → List PathStep → List Visit) (shapes : List Shape) (path : List PathStep) (mode : ℕ) (base : Offset) (al : Given) {a : Given} {cs : List Child}
     → GroupOf h a → ((r : ℕ) → r < length before → definitionOf before r ≡ definitionOf table r) → ChildrenFit before h cs → isEmpty cs ≡ false
-    → ((d address : ℕ) (here : List PathStep) → d < length before → isGroup (definitionOf table d .component) ≡ true → length here ≡ suc (length path) → length here ≤ 8
+    → ((d : ℕ) (address : Offset) (here : List PathStep) → d < length before → isGroup (definitionOf table d .component) ≡ true → length here ≡ suc (length path) → length here ≤ 8
     → All Short (content d address here) → Has table (content d address here))
     → All Short (childVisits content shapes path base cs (laidFrom mode al shapes bottom cs)) → Has table (childVisits content shapes path base cs (laidFrom mode al shapes bottom cs))
 unfolding childVisits laidFrom
@@ -115,7 +116,7 @@ group-has table true vs e f a = f a
 group-has table false vs e f a = absurd (let z : _≡_ {A = ℕ} 0 1 = cc in omega arith)
 
 -- a walk that stays above its lowest level ends in a register
-pub visits-reach : (table : List Definition) (shapes : List Shape) (mode levels row base : ℕ) (path : List PathStep) → Sensible table → row < length table
+pub visits-reach : (table : List Definition) (shapes : List Shape) (mode levels row : ℕ) (base : Offset) (path : List PathStep) → Sensible table → row < length table
     → isGroup (definitionOf table row .component) ≡ true → length path ≤ 8 → 9 ≤ length path + levels
     → All Short (visitsIn levels mode table shapes row base path) → Has table (visitsIn levels mode table shapes row base path)
 unfolding visitsIn

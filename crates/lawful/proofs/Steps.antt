@@ -13,7 +13,7 @@ use Rattle.components.specs.declared.Component.{Component}
 use Rattle.components.specs.declared.Component.the-variants as component
 use Rattle.table.specs.Definitions.{Child, Definition, definitionOf}
 use Rattle.sensible.specs.Sensible.{Sensible, ChildrenFit, children-none, children-more}
-use Rattle.layout.specs.Layout.{elements}
+use Rattle.layout.specs.Layout.{elements, bottom}
 use Rattle.layout.specs.declared.Shape.{Shape}
 use Rattle.layout.proofs.Laws.{sound-elements}
 use Rattle.shapes.specs.Shapes.{GroupOf, of-regfile, of-map}
@@ -91,7 +91,7 @@ group-held text table row s names low (component.Addrmap a m) k y = held-all tex
 
 -- the elements of a map, whose paths have names and indices of document 01
 pub map-seen : (text : List ℕ) (table : List Definition) (shapes : List Shape) (mode row : ℕ) → Sensible table → Names text table → row < length table
-    → All (Seen (length table) (StepFits text) 0) (visitsIn (suc nestLimit) mode table shapes row 0 [])
+    → All (Seen (length table) (StepFits text) 0) (visitsIn (suc nestLimit) mode table shapes row bottom [])
 map-seen text table shapes mode row s names low =
     visits-seen (length table) (StepFits text) table shapes mode
-    (λ d l g. all-map (λ c h. held-stepped c l h) (group-held text table d s names l (definitionOf table d .component) refl g)) (suc nestLimit) row 0 [] low all-none
+    (λ d l g. all-map (λ c h. held-stepped c l h) (group-held text table d s names l (definitionOf table d .component) refl g)) (suc nestLimit) row bottom [] low all-none

@@ -1,7 +1,7 @@
 -- Laws of the layout: the numbers of a sound instance are below the cap, and what is made of cut numbers, cut again, is what is made of
 -- the true ones, cut.
 use mathlib.Core.Bool.{Bool, true, false, _&&_, not}
-use mathlib.Core.Path.{_≡_, refl, sym, _∙_}
+use mathlib.Core.Path.{_≡_, refl, sym, ap, _∙_}
 use Prim.Native.Nat.{ℕ, _+_, _-_, _*_, _<_, _≤_}
 use native.Mathlib.Omega.{arith}
 use lib.Dec.{eqb, leb}
@@ -142,7 +142,7 @@ module _ {x y : ℕ} (e : Alike x y) where
   alike-step suffix.Missing = e
   alike-step (suffix.Given mark n) = alike-self (n .value)
 
-  alike-start : (at : Start) {s t : ℕ} → 1 ≤ s → 1 ≤ t → Alike s t → Alike (startAfter at x s) (startAfter at y t)
+  alike-start : (at : Start) {s t : ℕ} → 1 ≤ s → 1 ≤ t → Alike s t → Alike (startAfter at (record { 0 = x }) s .0) (startAfter at (record { 0 = y }) t .0)
   alike-start start.Free p q f = alike-raised p q f
   alike-start (start.At o) p q f = alike-self (o .0)
 
@@ -215,7 +215,7 @@ module _ (m : ℕ) (a : Given) (s : Shape) (i : Instance) where
   cut-laid end t p q kind f e =
       let o : 1 ≤ orElse 1 a = alignment-low (orElse 1 a) t in
       let h : 1 ≤ stepOr (i .alignment) 1 = sound-step kind i f e .0 in
-      let from : Alike (startAfter (startOf (i .address)) (cut (end .0)) (stepOf m a (cutShape s) i)) (startAfter (startOf (i .address)) (end .0) (stepOf m a s i)) =
+      let from : Alike (startAfter (startOf (i .address)) (cutOffset end) (stepOf m a (cutShape s) i) .0) (startAfter (startOf (i .address)) end (stepOf m a s i) .0) =
       alike-start (alike-cut (end .0)) (startOf (i .address))
       (step-low m a (cutShape s) i t (cut-positive (s .size) p) (cut-positive (s .access) q) h) (step-low m a s i t p q h) (alike-steps t p q) in
       rw (from .same, cut-strided a s i o, alike-sum from (spanned a s i o) .same)
@@ -317,20 +317,20 @@ module _ (a : Given) (s : Shape) (i : Instance) (f : Fitting a s i) where
       step-positive =
           rw step-done (cut-positive (stepOf m a s i) (step-low m a s i (f .aligned) (f .sized .0) (f .accessed .0) (sound-step (f .kind) i (f .addressed) (f .sound) .0)))
 
-    pub starts-low : {at : Start} {end step r : ℕ} → at ≡ startOf (i .address) → StartsAt at end step r → r ≤ cap
+    pub starts-low : {at : Start} {end r : Offset} {step : ℕ} → at ≡ startOf (i .address) → StartsAt at end step r → r .0 ≤ cap
     starts-low e g = g .low (rw e (sound-start (f .kind) i (f .addressed) (f .sound)))
 
-    pub lay-done : (end : Offset) {at : Start} {step from stride span past : ℕ} → at ≡ startOf (i .address) → step ≡ cut (stepOf m a s i) → 1 ≤ step → StartsAt at (end .0) step from
-        → stride ≡ cut (strideOf a s i) → span ≡ cut (spanOf a s i) → past ≡ cut (from + span)
-        → record { start = record { 0 = from }; stride = stride; end = record { 0 = past } } ≡ cutLaid (laid m a s i end)
+    pub lay-done : (end : Offset) {at : Start} {from : Offset} {step stride span past : ℕ} → at ≡ startOf (i .address) → step ≡ cut (stepOf m a s i) → 1 ≤ step → StartsAt at end step from
+        → stride ≡ cut (strideOf a s i) → span ≡ cut (spanOf a s i) → past ≡ cut (from .0 + span)
+        → record { start = from; stride = stride; end = record { 0 = past } } ≡ cutLaid (laid m a s i end)
     unfolding laid
-    lay-done end {step = step} {from = from} {past = past} e g p h u v w =
+    lay-done end {from = from} {step = step} {past = past} e g p h u v w =
         let at : Start = startOf (i .address) in
         let t : ℕ = stepOf m a s i in
         let l : 1 ≤ t = step-low m a s i (f .aligned) (f .sized .0) (f .accessed .0) (sound-step (f .kind) i (f .addressed) (f .sound) .0) in
-        let q : from ≡ cut (startAfter at (end .0) step) = (rw e at h) .each (sound-start (f .kind) i (f .addressed) (f .sound)) in
-        let x : from ≡ cut (startAfter at (end .0) t) = q ∙ alike-start (alike-self (end .0)) at p l (alike-of t g) .same in
-        let y : past ≡ cut (startAfter at (end .0) t + spanOf a s i) = w ∙ alike-sum (alike-of (startAfter at (end .0) t) x) (alike-of (spanOf a s i) v) .same in
+        let q : from ≡ cutOffset (startAfter at end step) = (rw e at h) .each (sound-start (f .kind) i (f .addressed) (f .sound)) in
+        let x : from ≡ cutOffset (startAfter at end t) = q ∙ ap (λ (n : ℕ). record { 0 = n }) (alike-start (alike-self (end .0)) at p l (alike-of t g) .same) in
+        let y : past ≡ cut (startAfter at end t .0 + spanOf a s i) = w ∙ alike-sum (alike-of (startAfter at end t .0) (ap (λ (o : Offset). o .0) x)) (alike-of (spanOf a s i) v) .same in
         rw (y, x, u)
 
 -- where an instance starts
@@ -340,13 +340,13 @@ at-below {o = o} e (start-at {o = p} l) =
     let q : p ≡ o = cc in
     rw q at l
 
-module _ (at : Start) (end step : ℕ) where
-  pub starts-at : {o : Offset} → at ≡ start.At o → StartsAt at end step (o .0)
+module _ (at : Start) (end : Offset) (step : ℕ) where
+  pub starts-at : {o : Offset} → at ≡ start.At o → StartsAt at end step o
   starts-at {o = o} e =
       record {
-        each = λ b. rw e (sym (cut-low (o .0) (at-below e b)));
+        each = λ b. rw e (ap (λ (n : ℕ). record { 0 = n }) (sym (cut-low (o .0) (at-below e b))));
         low = λ b. omega (arith, at-below e b);
       }
 
-  pub starts-free : {r : ℕ} → at ≡ start.Free → (r ≡ cut (raised end step)) × (r ≤ cap) → StartsAt at end step r
-  starts-free e (g, l) = record { each = λ b. rw e g; low = λ b. l }
+  pub starts-free : {r : ℕ} → at ≡ start.Free → (r ≡ cut (raised (end .0) step)) × (r ≤ cap) → StartsAt at end step (record { 0 = r })
+  starts-free e (g, l) = record { each = λ b. rw e (ap (λ (n : ℕ). record { 0 = n }) g); low = λ b. l }

@@ -2,7 +2,6 @@
 use mathlib.Core.Path.{_≡_}
 use Prim.Native.Nat.{ℕ, _<_, _≤_}
 use Rattle.parts.specs.declared.Kind.{Kind}
-use Rattle.parts.specs.declared.Kind.the-variants as kind
 use Rattle.parts.specs.declared.Instance.{Instance}
 use Rattle.settings.specs.Settings.{isField, isAlignment}
 use mathlib.Core.Bool.{true, false}
@@ -13,8 +12,8 @@ use Rattle.properties.specs.declared.Given.{Given}
 use Rattle.components.specs.declared.Offset.{Offset}
 use Rattle.components.specs.declared.Start.{Start}
 use Rattle.components.specs.declared.Start.the-variants as start
-use Rattle.offsets.specs.Offsets.{cap, cut}
-use Rattle.layout.specs.Layout.{startAfter}
+use Rattle.offsets.specs.Offsets.{cap}
+use Rattle.layout.specs.Layout.{startAfter, cutOffset}
 use Rattle.layout.specs.declared.Shape.{Shape}
 
 -- a body's alignment, an element's shape and an instance of a register or regfile whose suffixes are sound
@@ -32,6 +31,6 @@ pub data StartBelow : Start → Type 0 where
   start-at : {o : Offset} → o .0 < cap → StartBelow (start.At o)
 
 -- where an instance starts, cut at the cap: an address that is given is below the cap
-pub record StartsAt (start : Start) (end step r : ℕ) : Type 0 where
-  pub each : StartBelow start → r ≡ cut (startAfter start end step)
-  pub low : StartBelow start → r ≤ cap
+pub record StartsAt (start : Start) (end : Offset) (step : ℕ) (r : Offset) : Type 0 where
+  pub each : StartBelow start → r ≡ cutOffset (startAfter start end step)
+  pub low : StartBelow start → r .0 ≤ cap

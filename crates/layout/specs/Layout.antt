@@ -64,15 +64,15 @@ stepOf m alignment s i = stepOr (i .alignment) (commonMultiple (orElse 1 alignme
 
 -- "An instance with `@` starts there. Otherwise it takes the smallest offset not below the end of the previous instance (0 for the
 -- first) that is a multiple of its step"
-abbrev pub startAfter : Start → ℕ → ℕ → ℕ
-startAfter (start.At o) end step = o .0
-startAfter start.Free end step = raised end step
+abbrev pub startAfter : Start → Offset → ℕ → Offset
+startAfter (start.At o) end step = o
+startAfter start.Free end step = record { 0 = raised (end .0) step }
 
 -- where an instance lies in its body: its first element's offset, its stride, and its end
 unfoldable pub laid : ℕ → Given → Shape → Instance → Offset → Laid
 laid m alignment s i end =
-    let from = startAfter (startOf (i .address)) (end .0) (stepOf m alignment s i) in
-    record { start = record { 0 = from }; stride = strideOf alignment s i; end = record { 0 = from + spanOf alignment s i } }
+    let from = startAfter (startOf (i .address)) end (stepOf m alignment s i) in
+    record { start = from; stride = strideOf alignment s i; end = record { 0 = from .0 + spanOf alignment s i } }
 
 -- the offset of a body's first byte
 abbrev pub bottom : Offset
@@ -92,9 +92,9 @@ laidFrom m alignment shapes end (c ∷ cs) =
     l ∷ laidFrom m alignment shapes (l .end) cs
 
 -- "A regfile's size is its highest end"
-unfoldable pub highestEnd : List Laid → ℕ
-highestEnd [] = 0
-highestEnd (l ∷ ls) = larger (l .end .0) (highestEnd ls)
+unfoldable pub highestEnd : List Laid → Offset
+highestEnd [] = bottom
+highestEnd (l ∷ ls) = record { 0 = larger (l .end .0) (highestEnd ls .0) }
 
 unfoldable pub largestAccess : List Shape → List Child → ℕ
 largestAccess shapes [] = 0
@@ -102,7 +102,7 @@ largestAccess shapes (c ∷ cs) = larger (shapeAt shapes (c .type) .access) (lar
 
 -- a definition's shape, from those of the definitions before it
 abbrev pub groupShape : ℕ → Given → List Shape → List Child → Shape
-groupShape m alignment shapes cs = record { size = highestEnd (laidFrom m alignment shapes bottom cs); access = largestAccess shapes cs }
+groupShape m alignment shapes cs = record { size = highestEnd (laidFrom m alignment shapes bottom cs) .0; access = largestAccess shapes cs }
 
 abbrev pub shapeOf : ℕ → List Shape → Component → List Child → Shape
 shapeOf m shapes (component.Field f) cs = noShape

@@ -47,7 +47,7 @@ fn number_or(suffix: Suffix, standard: u64) -> u64
 }
 
 // The distance of two elements of an array.
-pub fn stride_of(alignment: Given, shape: Shape, instance: Instance) -> u64
+fn stride_of(alignment: Given, shape: Shape, instance: Instance) -> u64
     requires { ⌜ Fitting alignment shape instance ⌝ }
     ensures { λ r. ⌜ (r ≡ cut (strideOf alignment shape instance)) × (r ≤ cap) ⌝ }
 {
@@ -100,13 +100,13 @@ fn step_of(mode: u64, alignment: Given, shape: Shape, instance: Instance) -> u64
 }
 
 // The offset of an instance behind the one that ends at `end`.
-fn start_after(start: Start, end: u64, step: u64) -> u64
-    requires { ⌜ (end ≤ cap) × (1 ≤ step) × (step ≤ cap) ⌝ }
+fn start_after(start: Start, end: Offset, step: u64) -> Offset
+    requires { ⌜ (end .0 ≤ cap) × (1 ≤ step) × (step ≤ cap) ⌝ }
     ensures { λ r. ⌜ StartsAt start end step r ⌝ }
 {
     match start {
-        Start::At(offset) => offset.0,
-        Start::Free => offsets::raise(end, step),
+        Start::At(offset) => offset,
+        Start::Free => Offset(offsets::raise(end.0, step)),
     }
 }
 
@@ -117,13 +117,13 @@ pub fn lay(mode: u64, alignment: Given, shape: Shape, instance: Instance, end: O
 {
     let fixed = components::start_of(instance);
     let step = step_of(mode, alignment, shape, instance);
-    let start = start_after(fixed, end.0, step);
+    let start = start_after(fixed, end, step);
     let stride = stride_of(alignment, shape, instance);
     let span = span_of(alignment, shape, instance);
-    let past = offsets::sum(start, span);
+    let past = Offset(offsets::sum(start.0, span));
     Laid {
-        start: Offset(start),
+        start,
         stride,
-        end: Offset(past),
+        end: past,
     }
 }

@@ -172,18 +172,20 @@ second : (x z : Bool) {y : Bool} → y ≡ true → ((x || y) || z) ≡ true
 second true z e = refl
 second false z e = rw e
 
+-- a digit may stand in a number
+pub number-byte : (b : ℕ) → isDigit Decimal b ≡ true → isNumberByte b ≡ true
+unfolding isNumberByte isNameByte
+number-byte b e = second (isLetter b) (eqb b 39) e
+
 pub from-lies : (p : ℕ) (s : List ℕ) → Lies p (p + length s) (tokenFrom p s)
-unfolding tokenFrom nameToken numberToken stringToken isNumberByte isNameByte
+unfolding tokenFrom nameToken numberToken stringToken isNameByte
 from-lies p [] = record { starts = refl; reaches = omega arith; inside = omega arith; moves = λ n. absurd (n refl) }
 from-lies p (b ∷ s) =
     let L = Lies p (p + suc (length s)) in
     either L (isLetter b) (λ e. run-lies isNameByte p b s _ (rw e))
-    (λ _. either L (isDigit Decimal b) (λ e. run-lies isNumberByte p b s _ (number e))
+    (λ _. either L (isDigit Decimal b) (λ e. run-lies isNumberByte p b s _ (number-byte b e))
     (λ _. both L (eqb b 34) (string-lies p (length s) (closing p 34 (p + 1) s) (closing-found p 34 (p + 1) s (p + suc (length s)) (omega arith)))
     (mark-lies p b s)))
-  where
-    number : isDigit Decimal b ≡ true → isNumberByte b ≡ true
-    number e = second (isLetter b) (eqb b 39) e
 
 -- "a token lies within the text"
 pub record Within (text : List ℕ) (at : ℕ) (k : Token) : Type 0 where

@@ -5,3 +5,4 @@ pub mod Bytes
 pub mod Suffix
 pub mod Worked
 pub mod Left
+pub mod Numbers

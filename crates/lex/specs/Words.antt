@@ -1,5 +1,5 @@
 -- The first refusal of a text by 1, 2 and 4 (document 01, "Refusal numbers").
-use mathlib.Core.List.{List}
+use mathlib.Core.List.{List, [], _∷_}
 use Prim.Native.Nat.{ℕ, zero, suc, _+_}
 use lib.Dec.{ltb}
 use lib.ListN.{length}
@@ -54,3 +54,11 @@ firstBad (suc tokens) text at =
 -- 1 at 0; then the first bad word. (Each token has a byte at least, so there are no more tokens than bytes, and the end.)
 unfoldable pub wordsVerdict : List ℕ → Verdict
 wordsVerdict text = if ltb textLimit (length text) then refused 1 0 else firstBad (length text + 1) text 0
+
+-- a verdict in document 01's numbers: the refusal and its place, 0 and 0 where there is none
+abbrev pub verdictNumbers : Verdict → List ℕ
+verdictNumbers Accepted = 0 ∷ 0 ∷ []
+verdictNumbers (Refused n p) = n ∷ p .at ∷ []
+
+unfoldable pub wordsNumbers : List ℕ → List ℕ
+wordsNumbers text = verdictNumbers (wordsVerdict text)

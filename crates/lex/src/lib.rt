@@ -7,13 +7,14 @@ use vocabulary::Lookup;
 use vocabulary::Mark;
 use vocabulary::MarkLookup;
 ghost use mathlib.Core.Path.{_≡_};
+ghost use mathlib.Core.List.{[], _∷_};
 ghost use Prim.Native.Nat.{_≤_, _<_, _+_};
 ghost use lib.ListN.{length, take, drop};
 ghost use Rattle.vocabulary.specs.Vocabulary.{markOf};
 ghost use Rattle.lex.specs.Blank.{nextFrom};
 ghost use Rattle.lex.specs.Quote.{closes, closingFrom};
 ghost use Rattle.lex.specs.Token.{keywordWord, nameWord, numberWord, nameToken, numberToken, stringToken, longer, markToken, tokenFrom, tokenAt};
-ghost use Rattle.lex.specs.Words.{causeNumber, refused, judged, firstBad, wordsVerdict};
+ghost use Rattle.lex.specs.Words.{causeNumber, refused, judged, firstBad, wordsVerdict, verdictNumbers, wordsNumbers};
 
 const TEXT_LIMIT: usize = 65536;
 
@@ -321,7 +322,8 @@ fn cause_number(cause: Cause) -> u8
 
 // A refusal with its number at a place.
 pub fn refuse(number: u8, at: usize) -> Verdict
-    ensures { λ r. ⌜ r ≡ refused number at ⌝ }
+    ensures answer { λ r. ⌜ r ≡ refused number at ⌝ }
+    ensures numbers { λ r. ⌜ verdictNumbers r ≡ number ∷ at ∷ [] ⌝ }
 {
     Verdict::Refused(number, Place { at })
 }
@@ -361,7 +363,8 @@ fn first_bad(text: &[u8]) -> Verdict
 
 // The first refusal of a text by 1, 2 and 4, or none.
 pub fn first_refusal(text: &[u8]) -> Verdict
-    ensures { λ r. ⌜ r ≡ wordsVerdict (now (text .entry)) ⌝ }
+    ensures answer { λ r. ⌜ r ≡ wordsVerdict (now (text .entry)) ⌝ }
+    ensures numbers { λ r. ⌜ verdictNumbers r ≡ wordsNumbers (now (text .entry)) ⌝ }
 {
     if text.len() > TEXT_LIMIT {
         return refuse(1, 0);

@@ -1,6 +1,7 @@
 // Bytes poured into an output as far as there is room: numbers, words and lines of a listing.
 use components::FieldAt;
 use components::FieldType;
+use components::Offset;
 use properties::Given;
 ghost use mathlib.Core.Path.{_≡_};
 ghost use mathlib.Core.List.{[], _∷_};
@@ -172,11 +173,11 @@ pub fn put_decimal_line(out: &mut [u8], room: usize, start: Sink, key: &[u8], n:
     put_line_end(out, room, sink)
 }
 
-pub fn put_address_line(out: &mut [u8], room: usize, start: Sink, address: u64) -> Sink
-    ensures { λ r. ⌜ Pours room (now (out .entry)) (now (out .exit)) start (line (bytes "at=") (hex address)) r ⌝ }
+pub fn put_address_line(out: &mut [u8], room: usize, start: Sink, address: Offset) -> Sink
+    ensures { λ r. ⌜ Pours room (now (out .entry)) (now (out .exit)) start (line (bytes "at=") (hex (address .0))) r ⌝ }
 {
     let mut sink = put_bytes(out, room, start, b"at=");
-    sink = put_hex(out, room, sink, address);
+    sink = put_hex(out, room, sink, address.0);
     put_line_end(out, room, sink)
 }
 

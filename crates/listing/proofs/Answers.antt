@@ -8,13 +8,15 @@ use lib.Dec.{leb, ltb}
 use lib.ListN.{length, set, drop}
 use lib.Seq.{sets, sets-eq}
 use borrow.Author.Tests.{leb-true, leb-false, le-leb, lt-leb, ltb-true, ltb-false, not-true, not-false}
+use Rattle.chars.specs.Choice.{if_then_else_}
 use Rattle.lines.specs.declared.Sink.{Sink}
 use Rattle.lines.specs.Sinks.{behind, poured, withByte, filled, Pours}
 use Rattle.rows.specs.Rows.{Tables}
 use Rattle.rows.specs.Lawful.{lawful}
 use Rattle.rows.specs.Reading.{rowsIn}
+use Rattle.listing.specs.declared.Listed.{Listed}
 use Rattle.listing.specs.declared.Listed.the-variants.{Refused, Written}
-use Rattle.listing.specs.Listing.{listingOf, listed}
+use Rattle.listing.specs.Listing.{listingOf, listed, listedNumbers, listingNumbers}
 use Rattle.listing.specs.Bounds.{AllBounded}
 use Rattle.listing.proofs.Bounds.{lawful-bounded}
 
@@ -75,6 +77,16 @@ module _ (room : ℕ) where
       by false q rest =
           let m : at < room = leb-false room at q in
           ap (λ (s : Sink). poured room s bs .full) (behind-fits at m) ∙ rest (omega arith) (omega arith)
+
+-- an answer in numbers
+pub listed-numbers : (room : ℕ) (t : Tables) {r : Listed} → r ≡ listed room t → listedNumbers r ≡ listingNumbers room t
+unfolding listed listingNumbers
+listed-numbers room t e = ap listedNumbers e ∙ by (not (lawful t)) (ltb room (length (listingOf (rowsIn t))))
+  where
+    by : (a b : Bool) → let n = length (listingOf (rowsIn t)) in listedNumbers (if a then Refused 24 else if b then Refused 22 else Written n) ≡ (if a then 24 ∷ 0 ∷ 0 ∷ [] else if b then 22 ∷ 0 ∷ 0 ∷ [] else 0 ∷ 0 ∷ n ∷ [])
+    by true b = refl
+    by false true = refl
+    by false false = refl
 
 -- the answers
 module _ (t : Tables) {r : Bool} (e : r ≡ lawful t) where

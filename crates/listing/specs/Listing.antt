@@ -65,11 +65,14 @@ abbrev pub outputOf : List ℕ → List ℕ → Listed → List ℕ
 outputOf out bytes (Refused n) = out
 outputOf out bytes (Written n) = bytes ++ drop n out
 
--- an answer in document 01's numbers: the refusal or 0, and the count of bytes, 0 where it is refused; the place is always 0
-abbrev pub refusalOf : Listed → ℕ
-refusalOf (Refused n) = n
-refusalOf (Written n) = 0
+-- an answer in document 01's numbers: the refusal or 0, the place, which is always 0, and the count of bytes, 0 where refused
+abbrev pub listedNumbers : Listed → List ℕ
+listedNumbers (Refused n) = n ∷ 0 ∷ 0 ∷ []
+listedNumbers (Written n) = 0 ∷ 0 ∷ n ∷ []
 
-abbrev pub countOf : Listed → ℕ
-countOf (Refused n) = 0
-countOf (Written n) = n
+-- "Reset and listing check 24 for the rows, then 22": the numbers of a listing, with so much room
+unfoldable pub listingNumbers : ℕ → Tables → List ℕ
+listingNumbers room t =
+    if not (lawful t) then 24 ∷ 0 ∷ 0 ∷ [] else
+    if ltb room (length (listingOf (rowsIn t))) then 22 ∷ 0 ∷ 0 ∷ [] else
+    0 ∷ 0 ∷ length (listingOf (rowsIn t)) ∷ []

@@ -10,7 +10,7 @@ ghost use Rattle.lines.specs.Sinks.{Pours};
 ghost use Rattle.rows.specs.Rows.{tables};
 ghost use Rattle.rows.specs.Lawful.{registerRow, fieldRow};
 ghost use Rattle.rows.specs.Reading.{nameAt, indexFrom, stepsFrom, pathIn, fieldsFrom, entryIn, rowsIn};
-ghost use Rattle.listing.specs.Listing.{indexText, stepText, pathText, fieldLines, fieldsLines, headLines, entryLines, listingOf, listed, outputOf};
+ghost use Rattle.listing.specs.Listing.{indexText, stepText, pathText, fieldLines, fieldsLines, headLines, entryLines, listingOf, listed, outputOf, listedNumbers, listingNumbers};
 ghost use Rattle.listing.specs.Bounds.{Bounded, AllBounded};
 
 // A refusal's number, or how many bytes were written.
@@ -176,8 +176,9 @@ fn put_head_lines(
     ensures { λ r. ⌜ Pours room (now (out .entry)) (now (out .exit)) start (headLines (nameAt (now (paths .entry)) 0) (pathIn (now (registers .entry)) (now (paths .entry)) i) (registerRow (now (registers .entry)) i .address) (record { width = registerRow (now (registers .entry)) i .width; access = registerRow (now (registers .entry)) i .access })) r ⌝ }
 {
     let row = rows::register_row(registers, i);
+    let address = row.address;
     let mut sink = put_path_line(out, room, start, registers, paths, i, row.depth);
-    sink = lines::put_address_line(out, room, sink, row.address.0);
+    sink = lines::put_address_line(out, room, sink, address);
     sink = lines::put_decimal_line(out, room, sink, b"width=", row.width);
     lines::put_decimal_line(out, room, sink, b"access=", row.access)
 }
@@ -240,6 +241,7 @@ pub fn list(
     out: &mut [u8],
 ) -> Listed
     ensures answer { λ r. ⌜ r ≡ listed (length (now (out .entry))) (tables (now (registers .entry)) (now (paths .entry)) (now (fields .entry)) (now (labels .entry))) ⌝ }
+    ensures numbers { λ r. ⌜ listedNumbers r ≡ listingNumbers (length (now (out .entry))) (tables (now (registers .entry)) (now (paths .entry)) (now (fields .entry)) (now (labels .entry))) ⌝ }
     ensures written { λ r. ⌜ now (out .exit) ≡ outputOf (now (out .entry)) (listingOf (rowsIn (tables (now (registers .entry)) (now (paths .entry)) (now (fields .entry)) (now (labels .entry))))) r ⌝ }
 {
     if !rows::are_lawful(registers, paths, fields, labels) {

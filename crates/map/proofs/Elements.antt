@@ -2,9 +2,10 @@
 use mathlib.Core.Bool.{Bool, true, false}
 use mathlib.Core.Path.{_≡_, refl}
 use mathlib.Core.List.{List, [], _∷_, _++_}
-use Prim.Native.Nat.{ℕ, zero, suc, _+_, _*_, _<_, _≤_}
+use Prim.Native.Nat.{ℕ, zero, suc, _+_, _<_, _≤_}
 use native.Mathlib.Omega.{arith}
 use lib.ListN.{length}
+use Rattle.components.specs.declared.Offset.{Offset}
 use Rattle.table.specs.Definitions.{Child, Definition, definitionOf}
 use Rattle.rules.proofs.Instances.{length-more}
 use Rattle.layout.specs.Layout.{elements, bottom, shapeAt, laidFrom, alignmentOf}
@@ -12,7 +13,7 @@ use Rattle.layout.specs.declared.Shape.{Shape}
 use Rattle.layout.specs.declared.Laid.{Laid}
 use Rattle.faithful.specs.Sound.{All, all-none, all-more}
 use Rattle.faithful.proofs.Lists.{all-append, all-map}
-use Rattle.map.specs.Visits.{PathStep, Visit, indexIn, isGroup, elementVisits, childVisits, ofGroup, visitsIn}
+use Rattle.map.specs.Visits.{PathStep, Visit, indexIn, isGroup, addressOf, elementVisits, childVisits, ofGroup, visitsIn}
 
 -- the step of an instance's element
 abbrev pub stepFor : Child → ℕ → PathStep
@@ -42,9 +43,9 @@ group-all true h = h refl
 group-all false h = all-none
 
 module _ (rows : ℕ) (P : PathStep → Type 0) where
-  elements-seen : (content : ℕ → List PathStep → List Visit) (path : List PathStep) (c : Child) (base : ℕ) (s : Shape) (l : Laid) (k n : ℕ)
+  elements-seen : (content : Offset → List PathStep → List Visit) (path : List PathStep) (c : Child) (base : Offset) (s : Shape) (l : Laid) (k n : ℕ)
       → Stepped rows P c → All P path → k + n ≤ elements (c .instance .array)
-      → ((address : ℕ) (here : List PathStep) → All P here → All (Seen rows P (length here)) (content address here))
+      → ((address : Offset) (here : List PathStep) → All P here → All (Seen rows P (length here)) (content address here))
       → All (Seen rows P (length path)) (elementVisits content path c base s l k n)
   unfolding elementVisits
   elements-seen content path c base s l k zero h a f inner = all-none
@@ -54,12 +55,12 @@ module _ (rows : ℕ) (P : PathStep → Type 0) where
       let long : length here ≡ suc (length path) = length-more path step in
       let b : All P here = all-append a (all-more (h .step k (omega (arith, f))) all-none) in
       all-more (record { low = h .below; before = path; last = step; whole = refl; named = refl; steps = b; deeper = omega (arith, long) })
-      (all-append (all-map (λ v s. seen-above v (omega (arith, long)) s) (inner (base + (l .start .0 + l .stride * k)) here b))
+      (all-append (all-map (λ v s. seen-above v (omega (arith, long)) s) (inner (addressOf base l k) here b))
       (elements-seen content path c base s l (suc k) n h a (omega (arith, f)) inner))
 
-  children-seen : (content : ℕ → ℕ → List PathStep → List Visit) (shapes : List Shape) (path : List PathStep) (base : ℕ) {cs : List Child} (ls : List Laid)
+  children-seen : (content : ℕ → Offset → List PathStep → List Visit) (shapes : List Shape) (path : List PathStep) (base : Offset) {cs : List Child} (ls : List Laid)
       → All (Stepped rows P) cs → All P path
-      → ((d address : ℕ) (here : List PathStep) → d < rows → All P here → All (Seen rows P (length here)) (content d address here))
+      → ((d : ℕ) (address : Offset) (here : List PathStep) → d < rows → All P here → All (Seen rows P (length here)) (content d address here))
       → All (Seen rows P (length path)) (childVisits content shapes path base cs ls)
   unfolding childVisits
   children-seen content shapes path base ls all-none a inner = all-none
@@ -71,7 +72,7 @@ module _ (rows : ℕ) (P : PathStep → Type 0) where
 
   module _ (table : List Definition) (shapes : List Shape) (mode : ℕ)
       (instances : (d : ℕ) → d < rows → isGroup (definitionOf table d .component) ≡ true → All (Stepped rows P) (definitionOf table d .instances)) where
-    pub visits-seen : (levels row base : ℕ) (path : List PathStep) → row < rows → All P path → All (Seen rows P (length path)) (visitsIn levels mode table shapes row base path)
+    pub visits-seen : (levels row : ℕ) (base : Offset) (path : List PathStep) → row < rows → All P path → All (Seen rows P (length path)) (visitsIn levels mode table shapes row base path)
     unfolding visitsIn
     visits-seen zero row base path low a = all-none
     visits-seen (suc levels) row base path low a =

@@ -9,6 +9,7 @@ use Rattle.parts.specs.declared.Array.the-variants as array
 use Rattle.suffixes.specs.Suffixes.{isArray}
 use Rattle.properties.specs.declared.Given.{Given}
 use Rattle.properties.specs.declared.Given.the-variants.{Nothing, Number}
+use Rattle.components.specs.declared.Offset.{Offset}
 use Rattle.components.specs.declared.Component.{Component}
 use Rattle.components.specs.declared.Component.the-variants as component
 use Rattle.table.specs.Definitions.{Child, Definition, definitionOf}
@@ -27,7 +28,7 @@ pub record Visit : Type 0 where
   pub path : List PathStep
   pub name : Name
   pub type : ℕ
-  pub address : ℕ
+  pub address : Offset
   pub short : Bool
 
 abbrev pub indexIn : Array → ℕ → Given
@@ -41,18 +42,22 @@ isGroup (component.Register r) = false
 isGroup (component.Regfile a) = true
 isGroup (component.Addrmap a m) = true
 
+-- the address of an element of an instance that is laid in a body at an address
+abbrev pub addressOf : Offset → Laid → ℕ → Offset
+addressOf base l k = record { 0 = base .0 + (l .start .0 + l .stride * k) }
+
 -- the elements of an instance from the k-th on, `n` of them, each followed by its content
-unfoldable pub elementVisits : (ℕ → List PathStep → List Visit) → List PathStep → Child → ℕ → Shape → Laid → ℕ → ℕ → List Visit
+unfoldable pub elementVisits : (Offset → List PathStep → List Visit) → List PathStep → Child → Offset → Shape → Laid → ℕ → ℕ → List Visit
 elementVisits content path c base s l k zero = []
 elementVisits content path c base s l k (suc n) =
     let here = path ++ (record { name = c .instance .name; index = indexIn (c .instance .array) k } ∷ []) in
-    let address = base + (l .start .0 + l .stride * k) in
+    let address = addressOf base l k in
     let short = isArray (c .instance .array) && ltb (l .stride) (s .size) in
     record { path = here; name = c .instance .name; type = c .type; address = address; short = short } ∷
     (content address here ++ elementVisits content path c base s l (suc k) n)
 
 -- the instances of a body, laid there
-unfoldable pub childVisits : (ℕ → ℕ → List PathStep → List Visit) → List Shape → List PathStep → ℕ → List Child → List Laid → List Visit
+unfoldable pub childVisits : (ℕ → Offset → List PathStep → List Visit) → List Shape → List PathStep → Offset → List Child → List Laid → List Visit
 childVisits content shapes path base [] ls = []
 childVisits content shapes path base (c ∷ cs) [] = []
 childVisits content shapes path base (c ∷ cs) (l ∷ ls) =
@@ -64,7 +69,7 @@ ofGroup true vs = vs
 ofGroup false vs = []
 
 -- the content of a definition at an address, down to so many levels; a register has none
-unfoldable pub visitsIn : ℕ → ℕ → List Definition → List Shape → ℕ → ℕ → List PathStep → List Visit
+unfoldable pub visitsIn : ℕ → ℕ → List Definition → List Shape → ℕ → Offset → List PathStep → List Visit
 visitsIn zero m table shapes d base path = []
 visitsIn (suc levels) m table shapes d base path =
     let c = definitionOf table d in

@@ -17,7 +17,7 @@ use Rattle.table.specs.Definitions.{Definition, definitionOf}
 use Rattle.closing.specs.Registers.{fieldsOf}
 use Rattle.rules.specs.Judge.{Meaning}
 use Rattle.rows.specs.Limits.{nestLimit, registerLimit, fieldLimit, addressLimit}
-use Rattle.layout.specs.Layout.{shapeAt, shapesFrom, modeOf}
+use Rattle.layout.specs.Layout.{bottom, shapeAt, shapesFrom, modeOf}
 use Rattle.layout.specs.declared.Shape.{Shape}
 use Rattle.map.specs.Visits.{Visit, visitsIn}
 
@@ -52,7 +52,7 @@ unfoldable pub misplaced : List Definition → List Shape → List Visit → Fau
 misplaced table shapes [] = Sound
 misplaced table shapes (v ∷ vs) =
     let s = shapeAt shapes (v .type) in
-    if isRegisterVisit table v && (not (eqb (v .address % s .access) 0) || ltb addressLimit (v .address + s .size)) then offence 20 v else
+    if isRegisterVisit table v && (not (eqb (v .address .0 % s .access) 0) || ltb addressLimit (v .address .0 + s .size)) then offence 20 v else
     misplaced table shapes vs
 
 -- "`sw` is `r`, respectively `w`, .. for every field of the register"
@@ -73,7 +73,7 @@ isSharedLawfully table a b = isPair table a b || isPair table b a
 -- 21: whether two registers share a byte unlawfully
 unfoldable pub overlapRegisters : List Definition → List Shape → Visit → Visit → Bool
 overlapRegisters table shapes v u =
-    (ltb (v .address) (u .address + shapeAt shapes (u .type) .size) && ltb (u .address) (v .address + shapeAt shapes (v .type) .size)) &&
+    (ltb (v .address .0) (u .address .0 + shapeAt shapes (u .type) .size) && ltb (u .address .0) (v .address .0 + shapeAt shapes (v .type) .size)) &&
     not (isSharedLawfully table (v .type) (u .type))
 
 unfoldable pub overlapsOne : List Definition → List Shape → Visit → List Visit → Bool
@@ -101,7 +101,7 @@ abbrev pub mapShapes : Meaning → List Shape
 mapShapes m = shapesFrom (modeOf (definitionOf (m .table) (m .map) .component)) [] (m .table)
 
 abbrev pub mapVisits : Meaning → List Visit
-mapVisits m = visitsIn (suc nestLimit) (modeOf (definitionOf (m .table) (m .map) .component)) (m .table) (mapShapes m) (m .map) 0 []
+mapVisits m = visitsIn (suc nestLimit) (modeOf (definitionOf (m .table) (m .map) .component)) (m .table) (mapShapes m) (m .map) bottom []
 
 unfoldable pub mapFault : Meaning → Fault
 mapFault m =

@@ -1,13 +1,15 @@
 -- Stores that fit: what the test says of each number, and the store of zeros.
-use mathlib.Core.Path.{_≡_, refl, sym, subst}
-use mathlib.Core.Bool.{true}
+use mathlib.Core.Path.{_≡_, refl, sym, ap, _∙_, subst}
+use mathlib.Core.Bool.{Bool, true, false}
 use mathlib.Core.List.{List, [], _∷_}
-use Prim.Native.Nat.{ℕ, zero, suc, _^_, _≤_, _<_, zero-le, suc-le-suc}
-use native.Mathlib.Nat.{not-suc-le-zero, le-of-suc-le-suc, le-of-eq}
-use lib.ListN.{length, getD, replicate, length-replicate, getD-replicate}
+use Prim.Native.Nat.{ℕ, zero, suc, _+_, _-_, _^_, _≤_, _<_, zero-le, suc-le-suc}
+use native.Mathlib.Nat.{not-suc-le-zero, le-of-suc-le-suc, le-of-eq, lt-of-lt-of-le}
+use native.Mathlib.Omega.{arith}
+use lib.ListN.{length, getD, drop, replicate, length-replicate, length-drop, getD-replicate}
+use lib.Seq.{getD-drop}
 use lib.Dec.{ltb}
-use lib.Pow.{pow-pos}
-use borrow.Author.Tests.{ltb-true, lt-ltb}
+use lib.Pow.{pow-pos, pow-mono}
+use borrow.Author.Tests.{ltb-true, ltb-false, lt-ltb}
 use Rattle.chars.proofs.Laws.{and-left, and-right, and-both}
 use Rattle.model.specs.Model.{fits, Words}
 use Rattle.model.proofs.Tests.{true-false}
@@ -58,3 +60,20 @@ zeros-words n =
     record {
       each = λ f h. subst (λ (v : ℕ). v < 2 ^ 64) (sym (getD-replicate n f 0 0 (subst (λ (l : ℕ). f < l) (length-replicate n 0) h))) (pow-pos 64);
     }
+
+-- a store that fits, in numbers of at most 64 bits, with the numbers of such a store past them
+pub fits-words : (m s u : List ℕ) → ((f : ℕ) → f < length m → getD m f 0 ≤ 64) → fits m u ≡ true → drop (length m) u ≡ drop (length m) s → Words s → Words u
+fits-words m s u narrow h past w = record { each = λ f p. by f p (ltb f (length m)) refl }
+  where
+    long : length u - length m ≡ length s - length m
+    long = sym (length-drop (length m) u) ∙ ap length past ∙ length-drop (length m) s
+
+    by : (f : ℕ) → f < length u → (b : Bool) → ltb f (length m) ≡ b → getD u f 0 < 2 ^ 64
+    by f p true e = let q = ltb-true f (length m) e in lt-of-lt-of-le (fits-at m u h f q) (pow-mono (narrow f q))
+    by f p false e =
+        let q = ltb-false f (length m) e in
+        let z : length m + (f - length m) ≡ f = omega arith in
+        let same : getD u f 0 ≡ getD s f 0 =
+        ap (λ (k : ℕ). getD u k 0) (sym z) ∙ sym (getD-drop (length m) u (f - length m) 0) ∙ ap (λ (l : List ℕ). getD l (f - length m) 0) past
+        ∙ getD-drop (length m) s (f - length m) 0 ∙ ap (λ (k : ℕ). getD s k 0) z in
+        subst (λ (v : ℕ). v < 2 ^ 64) (sym same) (w .each f (omega (arith, long)))

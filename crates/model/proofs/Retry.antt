@@ -34,7 +34,7 @@ use Rattle.model.proofs.Tests.{true-false, not-both, not-second}
 use Rattle.model.proofs.Fits.{zeros-fit, zeros-words}
 use Rattle.model.proofs.Under.{under, bit-under, under-under, under-ext, under-kept, storeOf, storeOf-fitting, storeOf-bit}
 use Rattle.model.proofs.Demand.{after-under, fits-after, after-bit}
-use Rattle.model.proofs.Words.{wordPlace, word-inside, field-at, gives-cong, gives-each, gives-none, word-cong, shown-stored}
+use Rattle.model.proofs.Words.{wordIndex, word-inside, field-at, gives-cong, gives-each, gives-none, word-cong, shown-stored}
 use Rattle.model.proofs.Composed.{composed-kept, composed-sole, composed-calm, kept-each}
 
 -- ---- the test of each bit of each view
@@ -278,16 +278,16 @@ module _ (d : Device) (ok : Suited d) (a : Offset) (w : ℕ) (step : List ℕ �
 
   -- a bit that is read is 0 where the word's bits are
   none-at : (b : ℕ → ℕ → Bool) (k i : ℕ) → Shown (d .views) k i → readsBit a w (viewIn (d .views) k) i ≡ true
-      → gives (d .views) a w b (wordPlace a (viewIn (d .views) k) i) ≡ false → b (viewIn (d .views) k .slot) i ≡ false
+      → gives (d .views) a w b (wordIndex a (viewIn (d .views) k) i) ≡ false → b (viewIn (d .views) k .slot) i ≡ false
   none-at b k i p e q =
       let c = viewIn (d .views) k in
-      sym (field-at a w c (b (c .slot)) i (p .place) e) ∙ gives-each (d .views) a w b (wordPlace a c i) k (p .row) q
+      sym (field-at a w c (b (c .slot)) i (p .place) e) ∙ gives-each (d .views) a w b (wordIndex a c i) k (p .row) q
 
   -- a bit that is read is left 0 if it is
   zero-left : Same → (k i : ℕ) → Shown (d .views) k i → readsBit a w (viewIn (d .views) k) i ≡ true
       → apply (does-to (viewIn (d .views) k .slot) i) false ≡ false
   zero-left m k i p e =
-      let j = wordPlace a (viewIn (d .views) k) i in
+      let j = wordIndex a (viewIn (d .views) k) i in
       none-at (λ g n. apply (does-to g n) false) k i p e
       (stable m (λ g n. false) j (word-inside a w (viewIn (d .views) k) i (p .place) e) ∙ gives-none (d .views) a w j)
 
@@ -295,7 +295,7 @@ module _ (d : Device) (ok : Suited d) (a : Offset) (w : ℕ) (step : List ℕ �
   clears-none : Same → (k i : ℕ) → Shown (d .views) k i → readsBit a w (viewIn (d .views) k) i ≡ true
       → isCleared (does-to (viewIn (d .views) k .slot) i) ≡ false
   clears-none m k i p e =
-      let j = wordPlace a (viewIn (d .views) k) i in
+      let j = wordIndex a (viewIn (d .views) k) i in
       let h = word-inside a w (viewIn (d .views) k) i (p .place) e in
       let b : ℕ → ℕ → Bool = λ g n. isCleared (does-to g n) in
       none-at b k i p e

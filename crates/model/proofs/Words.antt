@@ -32,8 +32,8 @@ abbrev fieldBit : Offset → View → ℕ → ℕ
 fieldBit a c j = partLow a c .0 + j - c .field .low .0
 
 -- and the word's bit for bit i of the field's number
-abbrev pub wordPlace : Offset → View → ℕ → ℕ
-wordPlace a c i = placeOf c i .0 - partLow a c .0
+abbrev pub wordIndex : Offset → View → ℕ → ℕ
+wordIndex a c i = placeOf c i .0 - partLow a c .0
 
 record Taken (a : Offset) (w : ℕ) (c : View) (j : ℕ) : Type 0 where
   place : fieldBit a c j < size c
@@ -68,9 +68,9 @@ field-cong a w c b d j h k =
     (λ e. let p = taken a w c j h e in k (fieldBit a c j) (p .place) (p .reads))
 
 record Placed (a : Offset) (w : ℕ) (c : View) (i : ℕ) : Type 0 where
-  inside : wordPlace a c i < w
-  passes : seen a w c (wordPlace a c i) ≡ true
-  back : fieldBit a c (wordPlace a c i) ≡ i
+  inside : wordIndex a c i < w
+  passes : seen a w c (wordIndex a c i) ≡ true
+  back : fieldBit a c (wordIndex a c i) ≡ i
 
 placed : (a : Offset) (w : ℕ) (c : View) (i : ℕ) → i < size c → readsBit a w c i ≡ true → Placed a w c i
 placed a w c i h e =
@@ -78,7 +78,7 @@ placed a w c i h e =
     let low = c .field .low .0 in
     let high = c .field .high .0 in
     let n = placeOf c i .0 in
-    let j = wordPlace a c i in
+    let j = wordIndex a c i in
     let r = isReadable (c .field .values) in
     let q = reaches a w c in
     let l = leb p n in
@@ -95,14 +95,14 @@ placed a w c i h e =
       back = omega arith;
     }
 
-pub word-inside : (a : Offset) (w : ℕ) (c : View) (i : ℕ) → i < size c → readsBit a w c i ≡ true → wordPlace a c i < w
+pub word-inside : (a : Offset) (w : ℕ) (c : View) (i : ℕ) → i < size c → readsBit a w c i ≡ true → wordIndex a c i < w
 word-inside a w c i h e = placed a w c i h e .inside
 
 pub field-at : (a : Offset) (w : ℕ) (c : View) (b : ℕ → Bool) (i : ℕ) → i < size c → readsBit a w c i ≡ true
-    → fieldGives a w c b (wordPlace a c i) ≡ b i
+    → fieldGives a w c b (wordIndex a c i) ≡ b i
 field-at a w c b i h e =
     let p = placed a w c i h e in
-    ap (λ (g : Bool). g && b (fieldBit a c (wordPlace a c i))) (p .passes) ∙ ap b (p .back)
+    ap (λ (g : Bool). g && b (fieldBit a c (wordIndex a c i))) (p .passes) ∙ ap b (p .back)
 
 -- ---- the bits that a map gives
 

@@ -1,5 +1,6 @@
--- Reading and writing (documents 01 and 02, request 4): what a software read or write of a map answers, and what it does to the store.
--- A map is here a device: how many bits each number of the store has, and the field rows, each a view of one of these numbers.
+-- Reading and writing (document 01): what a software read or write of a map answers, and what it does to the store. A map is here a device:
+-- how many bits each number of the store has, and the field rows, each a view of one of these numbers. Document 01's rows show a number of
+-- their own each (access/specs/Stored.antt); nothing here asks for that, so that several rows may show one number.
 use mathlib.Core.Path.{_≡_}
 use mathlib.Core.Bool.{Bool, true, false, _&&_, _||_}
 use mathlib.Core.List.{List, [], _∷_}
@@ -24,9 +25,9 @@ use Rattle.model.specs.declared.Answer.the-variants.{Refused, Word}
 use Rattle.components.specs.Fields.{isReadable, isWritable}
 
 pub record Device : Type 0 where
-  -- how many bits each number of the store has: one number for each field row that is no alias's
+  -- how many bits each number of the store has
   pub sizes : List ℕ
-  -- the field rows, in row order: "Alias fields have rows but no store of their own; they use the primary's"
+  -- the field rows, in row order
   pub views : List View
 
 -- "Stored bits lie below the field's width in its number"
@@ -91,7 +92,7 @@ abbrev pub wordBit : Offset → ℕ → View → ℕ → Bool
 wordBit a x c i = bit x (placeOf c i .0 - partLow a c .0)
 
 -- what an answered access does to bit i of a view's number: "then `rclr` clears and `rset` sets the reached bits"; "per bit: plain copies" and
--- so on; "the primary's bits under the alias's `sw` and effects"
+-- so on
 abbrev pub bitAction : Access → View → ℕ → Action
 bitAction (Read a w) c i = if reachesBit a w c i then readAction (c .field .values .onread) else Kept
 bitAction (Write a w x) c i = if writesBit a w c i then writeAction (c .field .values .onwrite) (wordBit a x c i) else Kept
@@ -108,7 +109,8 @@ numberAfter x c v = if reaches (addressOf x) (widthOf x) c then acted (size c) (
 abbrev pub viewAfter : Access → View → List ℕ → List ℕ
 viewAfter x c s = set s (c .slot) (numberAfter x c (getD s (c .slot) 0))
 
--- the store after an access that is answered: "the registers act one after another in row order"
+-- the store after an access that is answered: the views act one after another, in row order; where each shows a number of its own, the order
+-- does not show
 unfoldable pub stepped : Access → List View → List ℕ → List ℕ
 stepped x [] s = s
 stepped x (c ∷ cs) s = stepped x cs (viewAfter x c s)
@@ -129,13 +131,17 @@ answered d x = eqb (refusal d x) 0
 abbrev pub after : Device → Access → List ℕ → List ℕ
 after d x s = if answered d x then stepped x (d .views) s else s
 
+-- the place in its register of bit j of the word
+abbrev pub wordPlace : Offset → View → ℕ → BitPlace
+wordPlace a c j = record { 0 = partLow a c .0 + j }
+
 -- "A read answers the readable reached bits (joined by or), 0 elsewhere": bit j of the word, from a view of the bits b
 abbrev pub fieldGives : Offset → ℕ → View → (ℕ → Bool) → ℕ → Bool
 fieldGives a w c b j =
-    isReadable (c .field .values) && reaches a w c && leb (c .field .low .0) (partLow a c .0 + j) && leb (partLow a c .0 + j) (c .field .high .0)
-    && b (partLow a c .0 + j - c .field .low .0)
+    isReadable (c .field .values) && reaches a w c && leb (c .field .low .0) (wordPlace a c j .0) && leb (wordPlace a c j .0) (c .field .high .0)
+    && b (wordPlace a c j .0 - c .field .low .0)
 
--- and from all views of the bits `b f i`, bit i of number f: "a read answers first", so from the bits before any effect
+-- and from all views of the bits `b f i`, bit i of number f, which are those before any effect: "then `rclr` clears"
 unfoldable pub gives : List View → Offset → ℕ → (ℕ → ℕ → Bool) → ℕ → Bool
 gives [] a w b j = false
 gives (c ∷ cs) a w b j = fieldGives a w c (b (c .slot)) j || gives cs a w b j
@@ -158,10 +164,15 @@ answerWith (suc n) word = Refused (suc n)
 abbrev pub answerFrom : Device → Access → (ℕ → ℕ → Bool) → Answer
 answerFrom d x b = answerWith (refusal d x) (wordFrom d x b)
 
--- an answer in document 01's numbers: the refusal or 0, and the word, 0 where it is refused; the place is always 0
-abbrev pub refusalIn : Answer → ℕ
-refusalIn (Refused n) = n
-refusalIn (Word w) = 0
+-- an answer in document 01's numbers: the refusal or 0, its place, which is always 0, and the word, 0 where it is refused
+abbrev pub accessNumbers : Answer → List ℕ
+accessNumbers (Refused n) = n ∷ 0 ∷ 0 ∷ []
+accessNumbers (Word w) = 0 ∷ 0 ∷ w ∷ []
+
+-- the same numbers of a refusal, or 0 for none, and a value: "Refused: counts and word are 0"
+abbrev pub numbersWith : ℕ → ℕ → List ℕ
+numbersWith zero value = 0 ∷ 0 ∷ value ∷ []
+numbersWith (suc n) value = suc n ∷ 0 ∷ 0 ∷ []
 
 abbrev pub wordIn : Answer → ℕ
 wordIn (Refused n) = 0

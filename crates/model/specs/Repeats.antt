@@ -46,7 +46,7 @@ unfoldable pub repeats : List View → Access → Bool
 repeats [] x = true
 repeats (c ∷ cs) x = allBelow (size c) (repeatsBit x c) && repeats cs x
 
--- no bit of a number is written through two views at once: what an accepted text has by rule 21, and some lawful rows have not
+-- no bit of a number is written through two views at once; where each view shows a number of its own, as in lawful rows, it is so
 pub record Alone (d : Device) (a : Offset) (w : ℕ) : Type 0 where
   pub alone : (j k i : ℕ) → j < length (d .views) → Shown (d .views) k i → viewIn (d .views) j .slot ≡ viewIn (d .views) k .slot
       → writesBit a w (viewIn (d .views) j) i ≡ true → writesBit a w (viewIn (d .views) k) i ≡ true → j ≡ k

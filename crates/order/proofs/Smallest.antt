@@ -6,13 +6,17 @@ use mathlib.Core.Logic.{_⊎_, inl, inr}
 use Prim.Native.Nat.{ℕ, _<_, _≤_}
 use native.Mathlib.Omega.{arith}
 use Rattle.chars.specs.Choice.{if_then_else_}
+use Rattle.lex.specs.Words.{wordsVerdict}
+use Rattle.lex.specs.declared.Verdict.{Verdict}
+use Rattle.lex.specs.declared.Verdict.the-variants.{Accepted, Refused}
 use Rattle.parts.specs.Reading.{ok}
 use Rattle.suffixes.specs.declared.Fault.the-variants.{Sound, Broken}
 use Rattle.syntax.specs.Tree.{Body}
 use Rattle.syntax.specs.Grammar.{fileAt}
 use Rattle.properties.specs.Judged.{Judged, fault, fine}
 use Rattle.rules.specs.Judge.{Meaning, judge}
-use Rattle.order.specs.Order.{Check, check, checksOf, firstFailing, faultOf, In, in-here, in-later, Before, Ordered, ordered-on}
+use Rattle.rules.specs.Rules.{afterWords, afterSentences, ruled}
+use Rattle.order.specs.Order.{Check, check, checksOf, firstFailing, faultOf, In, in-here, in-later, Before, Ordered, ordered-on, Foremost}
 use Rattle.order.proofs.First.{judge-first}
 use Rattle.order.proofs.Sorted.{checks-ordered}
 
@@ -83,12 +87,35 @@ refused text b e = sym (judge-first text b) ∙ ap (λ (j : Judged Meaning). fau
 accepted : (text : List ℕ) (b : Body) {x : Meaning} → judge text b ≡ fine x → firstFailing (checksOf text b) ≡ Sound
 accepted text b e = sym (judge-first text b) ∙ ap (λ (j : Judged Meaning). faultOf j) e
 
-pub smallest : (text : List ℕ) {b : Body} {m n p : ℕ} → fileAt text ≡ ok b m → judge text b ≡ fault n p → (c : Check) → In c (checksOf text b) → c .fails ≡ true
-    → (p < c .place) ⊎ ((p ≡ c .place) × (n ≤ c .number))
-smallest text {b} q e c i f = first-smallest (checks-ordered text q) (refused text b e) i f
+-- a text that is accepted has no bad word
+words-accept : (text : List ℕ) {x : Meaning} → ruled text ≡ fine x → wordsVerdict text ≡ Accepted
+unfolding ruled
+words-accept text {x} = by (wordsVerdict text)
+  where
+    by : (v : Verdict) → afterWords v (afterSentences text (fileAt text)) ≡ fine x → v ≡ Accepted
+    by Accepted e = refl
+    by (Refused n p) e = absurd (let z : _≡_ {A = ℕ} 0 1 = cc in omega arith)
 
-pub among : (text : List ℕ) (b : Body) {n p : ℕ} → judge text b ≡ fault n p → In (check n p true) (checksOf text b)
-among text b e = first-among (checksOf text b) (refused text b e)
+module _ (text : List ℕ) {b : Body} {m : ℕ} (sentences : fileAt text ≡ ok b m) where
+  -- behind the words and the sentences, the rules answer
+  judged : wordsVerdict text ≡ Accepted → ruled text ≡ judge text b
+  unfolding ruled
+  judged words = rw (words, sentences)
 
-pub none : (text : List ℕ) (b : Body) {x : Meaning} → judge text b ≡ fine x → (c : Check) → In c (checksOf text b) → c .fails ≡ false
-none text b e c i = first-none (accepted text b e) i
+  module _ (words : wordsVerdict text ≡ Accepted) {n p : ℕ} (e : ruled text ≡ fault n p) where
+    pub smallest : (c : Check) → In c (checksOf text b) → c .fails ≡ true → (p < c .place) ⊎ ((p ≡ c .place) × (n ≤ c .number))
+    smallest c i f = first-smallest (checks-ordered text sentences) (refused text b (sym (judged words) ∙ e)) i f
+
+    pub among : In (check n p true) (checksOf text b)
+    among = first-among (checksOf text b) (refused text b (sym (judged words) ∙ e))
+
+  pub none : {x : Meaning} → ruled text ≡ fine x → (c : Check) → In c (checksOf text b) → c .fails ≡ false
+  none e c i = first-none (accepted text b (sym (judged (words-accept text e)) ∙ e)) i
+
+  -- where a check fails, the answer is the failing one of the smallest place, then of the smallest number
+  pub foremost : wordsVerdict text ≡ Accepted → (c : Check) → In c (checksOf text b) → c .fails ≡ true → Foremost (checksOf text b) (ruled text)
+  foremost words c i f = by (ruled text) refl
+    where
+      by : (j : Judged Meaning) → ruled text ≡ j → Foremost (checksOf text b) j
+      by (fault n p) e = record { number = n; place = p; answer = refl; among = among words e; smallest = smallest words e }
+      by (fine x) e = unlike (sym f ∙ none e c i)

@@ -1,10 +1,11 @@
 -- Every check of the rules 5 to 18 in a text, each with its number, its place and whether it fails, by a walk that goes on behind a
--- fault. The judge's answer is the failing check of the smallest place, then of the smallest number (proofs/Smallest).
+-- fault. Behind words and sentences the rules answer the failing check of the smallest place, then of the smallest number
+-- (proofs/Smallest; of the compiler, lawful/proofs/Firsts).
 use mathlib.Core.Bool.{Bool, true, false, _||_, not}
 use mathlib.Core.List.{List, [], _∷_, _++_, map}
 use mathlib.Core.Logic.{_⊎_}
 use mathlib.Core.Path.{_≡_}
-use Prim.Native.Nat.{ℕ, _+_, _<_}
+use Prim.Native.Nat.{ℕ, _+_, _<_, _≤_}
 use lib.Dec.{leb, ltb}
 use Rattle.chars.specs.Choice.{if_then_else_}
 use Rattle.vocabulary.specs.Vocabulary.{propertyOf}
@@ -210,3 +211,11 @@ Before c d = (c .place < d .place) ⊎ ((c .place ≡ d .place) × (c .number < 
 pub data Ordered : List Check → Type 0 where
   ordered-none : Ordered []
   ordered-on : {c : Check} {cs : List Check} → ((d : Check) → In d cs → Before c d) → Ordered cs → Ordered (c ∷ cs)
+
+-- "by smallest place, then smallest number": an answer that is the failing check which no failing one comes before
+pub record Foremost {A : Type 0} (checks : List Check) (j : Judged A) : Type 0 where
+  pub number : ℕ
+  pub place : ℕ
+  pub answer : j ≡ fault number place
+  pub among : In (check number place true) checks
+  pub smallest : (c : Check) → In c checks → c .fails ≡ true → (place < c .place) ⊎ ((place ≡ c .place) × (number ≤ c .number))

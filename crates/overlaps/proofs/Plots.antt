@@ -10,6 +10,7 @@ use lib.ListN.{length, take, drop}
 use lib.Seq.{slice-cons, slice-empty}
 use borrow.Author.Tests.{lt-ltb, le-ltb}
 use Rattle.suffixes.specs.declared.Fault.the-variants.{Sound, Broken}
+use Rattle.components.specs.declared.Offset.{Offset}
 use Rattle.table.specs.Cells.{cellOf}
 use Rattle.table.specs.Definitions.{Definition}
 use Rattle.layout.specs.Layout.{shapeAt}
@@ -28,11 +29,11 @@ use Rattle.overlaps.proofs.Visits.{padded-cell, seen-length, seen-place
 use Rattle.overlaps.proofs.Overlaps.{one-register, one-none, registers-decide, from-end, from-hit, from-on}
 
 -- a register of the log, from its cells
-same-plot : {a b c x y z : ℕ} → a ≡ x → b ≡ y → c ≡ z → _≡_ {A = Plot} (record { row = a; address = b; size = c }) (record { row = x; address = y; size = z })
+same-plot : {a b c x y z : ℕ} → a ≡ x → b ≡ y → c ≡ z → _≡_ {A = Plot} (record { row = a; address = record { 0 = b }; size = c }) (record { row = x; address = record { 0 = y }; size = z })
 same-plot p q r = rw (p, q, r)
 
 pub plot-read : (s log : List ℕ) (i : ℕ) {address row : ℕ} {shape : Shape} → address ≡ cellOf log (i * 27) → row ≡ cellOf log (i * 27 + 1) → shape ≡ shapeIn s row
-    → record { row = row; address = address; size = shape .size } ≡ plotIn s log i
+    → record { row = row; address = record { 0 = address }; size = shape .size } ≡ plotIn s log i
 unfolding plotIn
 plot-read s log i p q g = same-plot q p (ap (λ (z : Shape). z .size) g ∙ ap (λ (n : ℕ). shapeIn s n .size) q)
 
@@ -44,21 +45,21 @@ module _ (table : List Definition) (v u : Plot) where
   abbrev lawless : Bool
   lawless = not (isSharedLawfully table (v .row) (u .row))
 
-  pub apart-behind : u .address + u .size ≤ v .address → false ≡ plotsOverlap table v u
+  pub apart-behind : u .address .0 + u .size ≤ v .address .0 → false ≡ plotsOverlap table v u
   unfolding plotsOverlap
-  apart-behind h = ap (λ (b : Bool). (b && ltb (u .address) (v .address + v .size)) && lawless) (sym (le-ltb (v .address) (u .address + u .size) h))
+  apart-behind h = ap (λ (b : Bool). (b && ltb (u .address .0) (v .address .0 + v .size)) && lawless) (sym (le-ltb (v .address .0) (u .address .0 + u .size) h))
 
-  module _ (a : v .address < u .address + u .size) where
-    first-below : {x : Bool} → x ≡ (ltb (u .address) (v .address + v .size) && lawless) → x ≡ plotsOverlap table v u
+  module _ (a : v .address .0 < u .address .0 + u .size) where
+    first-below : {x : Bool} → x ≡ (ltb (u .address .0) (v .address .0 + v .size) && lawless) → x ≡ plotsOverlap table v u
     unfolding plotsOverlap
-    first-below e = e ∙ ap (λ (b : Bool). (b && ltb (u .address) (v .address + v .size)) && lawless) (sym (lt-ltb (v .address) (u .address + u .size) a))
+    first-below e = e ∙ ap (λ (b : Bool). (b && ltb (u .address .0) (v .address .0 + v .size)) && lawless) (sym (lt-ltb (v .address .0) (u .address .0 + u .size) a))
 
-    pub apart-before : v .address + v .size ≤ u .address → false ≡ plotsOverlap table v u
-    apart-before h = first-below (ap (λ (b : Bool). b && lawless) (sym (le-ltb (u .address) (v .address + v .size) h)))
+    pub apart-before : v .address .0 + v .size ≤ u .address .0 → false ≡ plotsOverlap table v u
+    apart-before h = first-below (ap (λ (b : Bool). b && lawless) (sym (le-ltb (u .address .0) (v .address .0 + v .size) h)))
 
-    module _ {r : Bool} (b : u .address < v .address + v .size) (e : r ≡ isPair table (v .row) (u .row)) where
+    module _ {r : Bool} (b : u .address .0 < v .address .0 + v .size) (e : r ≡ isPair table (v .row) (u .row)) where
       meeting : {x : Bool} → x ≡ lawless → x ≡ plotsOverlap table v u
-      meeting f = first-below (f ∙ ap (λ (b : Bool). b && lawless) (sym (lt-ltb (u .address) (v .address + v .size) b)))
+      meeting f = first-below (f ∙ ap (λ (b : Bool). b && lawless) (sym (lt-ltb (u .address .0) (v .address .0 + v .size) b)))
 
       pub shared-first : r ≡ true → false ≡ plotsOverlap table v u
       unfolding isSharedLawfully
@@ -67,6 +68,10 @@ module _ (table : List Definition) (v u : Plot) where
       pub shared-second : {s : Bool} → r ≡ false → s ≡ isPair table (u .row) (v .row) → not s ≡ plotsOverlap table v u
       unfolding isSharedLawfully
       shared-second y f = meeting (ap not f ∙ ap (λ (b : Bool). not (b || isPair table (u .row) (v .row))) (sym y ∙ e))
+
+-- an address's number
+abbrev number : Offset → ℕ
+number o = o .0
 
 -- a register of the log is one of the map's
 pub record PlotOf (shapes : List Shape) (v : Visit) (p : Plot) : Type 0 where
@@ -80,7 +85,7 @@ same-overlap table p q r s t u = rw (p, q, r, s, t, u)
 
 plots-overlap : (table : List Definition) (shapes : List Shape) {v u : Visit} {p q : Plot} → PlotOf shapes v p → PlotOf shapes u q → plotsOverlap table p q ≡ overlapRegisters table shapes v u
 unfolding plotsOverlap overlapRegisters
-plots-overlap table shapes a b = same-overlap table (a .address) (a .size) (a .row) (b .address) (b .size) (b .row)
+plots-overlap table shapes a b = same-overlap table (ap number (a .address)) (a .size) (a .row) (ap number (b .address)) (b .size) (b .row)
 
 module _ (text t s log : List ℕ) (e : Extent) (row : ℕ) (c : Charted text t s log e row) (i : ℕ) (h : i < length (registersOf text t e row)) where
   abbrev visit : Visit
@@ -110,7 +115,7 @@ module _ (text t s log : List ℕ) (e : Extent) (row : ℕ) (c : Charted text t 
       let shape : Shape = shapeAt (allShapes text t e) (visit .type) in
       record {
         row = log-at .type;
-        address = log-at .address ∙ seen-at .exact;
+        address = ap (λ (n : ℕ). record { 0 = n }) (log-at .address ∙ seen-at .exact);
         size =
             ap (λ (n : ℕ). shapeIn s n .size) (log-at .type) ∙ ap (λ (z : Shape). z .size) (c .shaped .shapes .each (visit .type) type-low)
             ∙ ap (λ (z : Shape). z .size) (register-whole text t e (visit .type) (seen-at .type));
@@ -124,7 +129,7 @@ module _ (text t s log : List ℕ) (e : Extent) (row : ℕ) (c : Charted text t 
       let o = plot-is f in
       let w = seen-at .sited .within in
       let z = register-size text t e (visit .type) (seen-at .type) in
-      record { row = rw (o .row) type-low; address = omega (arith, o .address, w); size = omega (arith, o .size, z) }
+      record { row = rw (o .row) type-low; address = omega (arith, ap number (o .address), w); size = omega (arith, o .size, z) }
 
   -- its name's place is that of its path's last step
   pub named-at : cellOf log (i * 27 + 3 * cellOf log (i * 27 + 2)) ≡ visitAt (registersOf text t e row) i .name .start

@@ -31,7 +31,7 @@ use Rattle.rules.proofs.Closing.{getD-last}
 use Rattle.sensible.specs.Sensible.{Fits, register-fits}
 use Rattle.offsets.specs.Offsets.{cut}
 use Rattle.offsets.proofs.Laws.{cut-low}
-use Rattle.layout.specs.Layout.{elements, shapeAt, shapeOf, shapesFrom, cutShape}
+use Rattle.layout.specs.Layout.{elements, bottom, shapeAt, shapeOf, shapesFrom, cutShape}
 use Rattle.layout.specs.declared.Shape.{Shape}
 use Rattle.layout.proofs.Laws.{sound-elements}
 use Rattle.shapes.specs.declared.Extent.{Extent}
@@ -96,7 +96,7 @@ group-held text t e row ready low (component.Addrmap a m) k y = held-all text t 
 pub elements-of-seen : (text t : List ℕ) (e : Extent) (row : ℕ) → Ready text t e → row < e .rows → All (Seen (e .rows) (StepOf text t e) 0) (elementsOf text t e row)
 elements-of-seen text t e row ready low =
     visits-seen (e .rows) (StepOf text t e) (known text t e) (allShapes text t e) (e .mode)
-    (λ d l g. all-map held-stepped (group-held text t e d ready l (definitionOf (known text t e) d .component) refl g)) (suc nestLimit) row 0 [] low all-none
+    (λ d l g. all-map held-stepped (group-held text t e d ready l (definitionOf (known text t e) d .component) refl g)) (suc nestLimit) row bottom [] low all-none
 
 -- an index of a path in a cell
 index-low : (a : Array) (k : ℕ) → k < elements a → indexCode (indexIn a k) ≤ elements a
@@ -198,17 +198,17 @@ none-short (v ∷ vs) f = all-more (pass-test 19 (v .name .start) (tooClose vs) 
 
 -- a register on a multiple of its access bytes, and its last byte in the range of addresses
 pub record Sited (shapes : List Shape) (v : Visit) : Type 0 where
-  pub aligned : v .address % shapeAt shapes (v .type) .access ≡ 0
-  pub within : v .address + shapeAt shapes (v .type) .size ≤ 4294967296
+  pub aligned : v .address .0 % shapeAt shapes (v .type) .access ≡ 0
+  pub within : v .address .0 + shapeAt shapes (v .type) .size ≤ 4294967296
 
-sited-by : (shapes : List Shape) (v : Visit) (r : Bool) → (r && (not (eqb (v .address % shapeAt shapes (v .type) .access) 0) || ltb addressLimit (v .address + shapeAt shapes (v .type) .size))) ≡ false → r ≡ true → Sited shapes v
+sited-by : (shapes : List Shape) (v : Visit) (r : Bool) → (r && (not (eqb (v .address .0 % shapeAt shapes (v .type) .access) 0) || ltb addressLimit (v .address .0 + shapeAt shapes (v .type) .size))) ≡ false → r ≡ true → Sited shapes v
 sited-by shapes v true f y =
     let s : Shape = shapeAt shapes (v .type) in
-    let a : Bool = eqb (v .address % s .access) 0 in
-    let b : Bool = ltb 4294967296 (v .address + s .size) in
+    let a : Bool = eqb (v .address .0 % s .access) 0 in
+    let b : Bool = ltb 4294967296 (v .address .0 + s .size) in
     record {
-      aligned = eqb-true (v .address % s .access) 0 (not-false a (or-left (not a) b f));
-      within = ltb-false 4294967296 (v .address + s .size) (or-right (not a) b f);
+      aligned = eqb-true (v .address .0 % s .access) 0 (not-false a (or-left (not a) b f));
+      within = ltb-false 4294967296 (v .address .0 + s .size) (or-right (not a) b f);
     }
 sited-by shapes v false f y = absurd (let z : _≡_ {A = ℕ} 0 1 = cc in omega arith)
 
@@ -217,7 +217,7 @@ unfolding misplaced
 all-sited table shapes [] f = all-none
 all-sited table shapes (v ∷ vs) f =
     let s : Shape = shapeAt shapes (v .type) in
-    let b : Bool = isRegisterVisit table v && (not (eqb (v .address % s .access) 0) || ltb addressLimit (v .address + s .size)) in
+    let b : Bool = isRegisterVisit table v && (not (eqb (v .address .0 % s .access) 0) || ltb addressLimit (v .address .0 + s .size)) in
     let p : ℕ = v .name .start in
     all-more (sited-by shapes v (isRegisterVisit table v) (pass-test 20 p (misplaced table shapes vs) b f)) (all-sited table shapes vs (pass-on 20 p (misplaced table shapes vs) b f))
 
@@ -291,7 +291,7 @@ pub record RegisterSeen (text t : List ℕ) (e : Extent) (v : Visit) : Type 0 wh
   pub type : RegisterKnown text t e (v .type)
   pub shallow : length (v .path) ≤ 8
   pub sited : Sited (allShapes text t e) v
-  pub exact : cut (v .address) ≡ v .address
+  pub exact : cut (v .address .0) ≡ v .address .0
 
 pub registers-seen : (text t : List ℕ) (e : Extent) (row : ℕ) → Ready text t e → row < e .rows → surveyFault (known text t e) (allShapes text t e) (elementsOf text t e row) ≡ Sound
     → All (RegisterSeen text t e) (registersOf text t e row)
@@ -310,6 +310,6 @@ registers-seen text t e row ready low f =
       type = known-register text t e (v .type) ready (p .0 .0 .low) (p .1);
       shallow = p .0 .1 .0;
       sited = s;
-      exact = cut-low (v .address) (omega (arith, s .within));
+      exact = cut-low (v .address .0) (omega (arith, s .within));
     })
     (registers-all table (all-both (elements-of-seen text t e row ready low) (all-both (few-levels table 0 0 vs a) (all-sited table shapes vs b))))

@@ -10,7 +10,7 @@ use Rattle.components.specs.declared.Component.{Component}
 use Rattle.components.specs.declared.Component.the-variants as component
 use Rattle.table.specs.Cells.{cellOf}
 use Rattle.table.specs.Definitions.{Definition}
-use Rattle.rows.specs.Limits.{registerLimit}
+use Rattle.rows.specs.Limits.{registerLimit, addressLimit}
 use Rattle.shapes.specs.declared.Extent.{Extent}
 use Rattle.shapes.specs.Ready.{known}
 use Rattle.shapes.specs.Shapes.{shapeIn, allShapes}
@@ -38,16 +38,16 @@ unfoldable pub plotIn : List ℕ → List ℕ → ℕ → Plot
 plotIn s log i =
     record {
       row = cellOf log (i * logWidth + 1);
-      address = cellOf log (i * logWidth);
+      address = record { 0 = cellOf log (i * logWidth) };
       size = shapeIn s (cellOf log (i * logWidth + 1)) .size;
     }
 
 unfoldable pub plotsOverlap : List Definition → Plot → Plot → Bool
 plotsOverlap table v u =
-    (ltb (v .address) (u .address + u .size) && ltb (u .address) (v .address + v .size)) && not (isSharedLawfully table (v .row) (u .row))
+    (ltb (v .address .0) (u .address .0 + u .size) && ltb (u .address .0) (v .address .0 + v .size)) && not (isSharedLawfully table (v .row) (u .row))
 
 -- numbers that can be added
 pub record PlotFits (e : Extent) (p : Plot) : Type 0 where
   pub row : p .row < e .rows
-  pub address : p .address ≤ 4294967296
-  pub size : p .size ≤ 4294967296
+  pub address : p .address .0 ≤ addressLimit
+  pub size : p .size ≤ addressLimit

@@ -1,5 +1,6 @@
 // 21: the first register in map order that shares a byte with an earlier one unlawfully.
 use components::Component;
+use components::Offset;
 use settings::Access;
 use shapes::Extent;
 use suffixes::Fault;
@@ -8,16 +9,18 @@ ghost use mathlib.Core.List.{[]};
 ghost use Prim.Native.Nat.{_+_, _*_, _<_, _≤_};
 ghost use lib.ListN.{length, take};
 ghost use Rattle.table.specs.Cells.{cellOf};
+ghost use Rattle.rows.specs.Limits.{nestLimit, registerLimit};
 ghost use Rattle.shapes.specs.Ready.{known, Ready};
 ghost use Rattle.shapes.specs.Shapes.{allShapes};
 ghost use Rattle.map.specs.Whole.{hasAccess, isPair, overlapsOne, overlapping};
+ghost use Rattle.walk.specs.Runs.{logWidth};
 ghost use Rattle.walk.specs.Walks.{visitAt, elementsOf, registersOf};
 ghost use Rattle.overlaps.specs.Charted.{Charted, hasIn, plotIn, plotsOverlap, PlotFits};
 
 // A register of the log: its type's row, its address and its size in bytes.
 pub struct Plot {
     pub row: usize,
-    pub address: u64,
+    pub address: Offset,
     pub size: u64,
 }
 
@@ -76,11 +79,11 @@ fn is_pair(text: &[u8], cells: &[u64], extent: Extent, reader: usize, writer: us
 
 // A register of the log.
 fn plot_at(shapes: &[u64], log: &[u64], i: usize) -> Plot
-    requires { ⌜ (i ≤ 1024) × (cellOf (now log) (i * 27 + 1) < 256) ⌝ }
+    requires { ⌜ (i ≤ registerLimit) × (cellOf (now log) (i * logWidth + 1) < 256) ⌝ }
     ensures { λ r. ⌜ r ≡ plotIn (now (shapes .entry)) (now (log .entry)) i ⌝ }
 {
     let start = i * walk::LOG_ROW;
-    let address = table::cell(log, start);
+    let address = Offset(table::cell(log, start));
     let row = table::cell(log, start + 1) as usize;
     let shape = shapes::shape_at(shapes, row);
     Plot {
@@ -95,10 +98,10 @@ fn is_overlap(text: &[u8], cells: &[u64], extent: Extent, v: Plot, u: Plot) -> b
     requires { ⌜ Ready (now text) (now cells) extent × PlotFits extent v × PlotFits extent u ⌝ }
     ensures { λ r. ⌜ r ≡ plotsOverlap (known (now (text .entry)) (now (cells .entry)) extent) v u ⌝ }
 {
-    if u.address + u.size <= v.address {
+    if u.address.0 + u.size <= v.address.0 {
         return false;
     }
-    if v.address + v.size <= u.address {
+    if v.address.0 + v.size <= u.address.0 {
         return false;
     }
     if is_pair(text, cells, extent, v.row, u.row) {
@@ -133,8 +136,8 @@ fn overlaps_earlier(
 
 // Where the name of a register of the log stands: that of its path's last step.
 fn place_at(log: &[u64], i: usize) -> usize
-    requires { ⌜ (i ≤ 1024) × (cellOf (now log) (i * 27 + 2) ≤ 8) ⌝ }
-    ensures { λ r. ⌜ r ≡ cellOf (now (log .entry)) (i * 27 + 3 * cellOf (now (log .entry)) (i * 27 + 2)) ⌝ }
+    requires { ⌜ (i ≤ registerLimit) × (cellOf (now log) (i * logWidth + 2) ≤ nestLimit) ⌝ }
+    ensures { λ r. ⌜ r ≡ cellOf (now (log .entry)) (i * logWidth + 3 * cellOf (now (log .entry)) (i * logWidth + 2)) ⌝ }
 {
     let start = i * walk::LOG_ROW;
     let depth = table::cell(log, start + 2) as usize;

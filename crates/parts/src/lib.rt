@@ -243,7 +243,7 @@ fn role_value(role: Role) -> bool
     }
 }
 
-pub fn is_name(word: Word) -> bool
+fn is_name(word: Word) -> bool
     ensures { λ r. ⌜ r ≡ isName word ⌝ }
 {
     match word {
@@ -257,7 +257,7 @@ pub fn is_name(word: Word) -> bool
     }
 }
 
-pub fn kind_of(word: Word) -> KindLookup
+fn kind_of(word: Word) -> KindLookup
     ensures { λ r. ⌜ r ≡ kindOf word ⌝ }
 {
     match word {
@@ -280,7 +280,7 @@ pub fn is_kind(word: Word) -> bool
     }
 }
 
-pub fn is_default(word: Word) -> bool
+fn is_default(word: Word) -> bool
     ensures { λ r. ⌜ r ≡ isDefault word ⌝ }
 {
     match word {
@@ -294,7 +294,7 @@ pub fn is_default(word: Word) -> bool
     }
 }
 
-pub fn is_property(word: Word) -> bool
+fn is_property(word: Word) -> bool
     ensures { λ r. ⌜ r ≡ isProperty word ⌝ }
 {
     match word {
@@ -419,7 +419,7 @@ fn read_array_rest(text: &[u8], at: usize, bracket: usize, left: Number) -> Arra
 }
 
 // `[n]`, `[left:right]` or neither.
-pub fn read_array(text: &[u8], at: usize) -> ArrayReading
+fn read_array(text: &[u8], at: usize) -> ArrayReading
     ensures { λ r. ⌜ arrayRead r ≡ arrayAt (now (text .entry)) at ⌝ }
 {
     let token = lex::next_token(text, at);
@@ -445,7 +445,7 @@ fn suffix_mark(kind: SuffixKind) -> Mark
 }
 
 // A suffix of one kind, or none.
-pub fn read_suffix(text: &[u8], at: usize, kind: SuffixKind) -> SuffixReading
+fn read_suffix(text: &[u8], at: usize, kind: SuffixKind) -> SuffixReading
     ensures { λ r. ⌜ suffixRead r ≡ suffixAt kind (now (text .entry)) at ⌝ }
 {
     let token = lex::next_token(text, at);
@@ -620,7 +620,7 @@ fn keyword_value(keyword: Keyword, place: usize) -> ValueLookup
 }
 
 // A value.
-pub fn read_value(text: &[u8], at: usize) -> ValueReading
+fn read_value(text: &[u8], at: usize) -> ValueReading
     ensures { λ r. ⌜ valueRead r ≡ valueAt (now (text .entry)) at ⌝ }
 {
     let token = lex::next_token(text, at);

@@ -1,5 +1,5 @@
 -- How what the code knows changes from place to place.
-use mathlib.Core.List.{List}
+use mathlib.Core.List.{List, [], _∷_}
 use Prim.Native.Nat.{ℕ, _+_, _-_, _*_}
 use lib.Dec.{eqb}
 use Rattle.chars.specs.Choice.{if_then_else_}
@@ -148,9 +148,14 @@ rootScope = record { place = Root; first = 0; base = 0; defaults = noSettings }
 
 abbrev pub rulingOf : Walk → ℕ → Given → Ruling
 rulingOf w end Nothing = ruling.Fault 10 end
-rulingOf w end (Number row) = ruling.Map row (w .closed) (w .filed)
+rulingOf w end (Number row) = ruling.Map row (w .closed)
 
 -- the first refusal by these rules, or none
 abbrev pub verdictOf : Ruling → Verdict
 verdictOf (ruling.Fault n p) = refused n p
-verdictOf (ruling.Map row closed filed) = Accepted
+verdictOf (ruling.Map row closed) = Accepted
+
+-- the same in document 01's numbers: the refusal or 0, and its place
+abbrev pub rulingNumbers : Ruling → List ℕ
+rulingNumbers (ruling.Fault n p) = n ∷ p ∷ []
+rulingNumbers (ruling.Map row closed) = 0 ∷ 0 ∷ []

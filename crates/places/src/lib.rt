@@ -17,6 +17,7 @@ ghost use mathlib.Core.Path.{_≡_};
 ghost use mathlib.Core.Bool.{_||_, _&&_};
 ghost use Prim.Native.Nat.{_<_, _≤_};
 ghost use lib.Dec.{eqb};
+ghost use Rattle.lex.specs.Words.{verdictNumbers};
 ghost use Rattle.parts.specs.Words.{isMark};
 ghost use Rattle.parts.specs.Parts.{isNamed, propertyAt};
 ghost use Rattle.properties.specs.Assigned.{nearest};
@@ -24,7 +25,7 @@ ghost use Rattle.properties.specs.Properties.{judgedAs};
 ghost use Rattle.components.specs.Components.{componentOf, kindOf};
 ghost use Rattle.table.specs.Cells.{rank, componentIn};
 ghost use Rattle.places.specs.Places.{mayDefine, mayHold, isBadMap};
-ghost use Rattle.places.specs.Walks.{afterListing, afterSetting, settingStep, openingWalk, innerScope, nameOr, filedCells, closedWalk, headAfter, mapAfter, afterBody, rootWalk, rootScope, rulingOf, verdictOf};
+ghost use Rattle.places.specs.Walks.{afterListing, afterSetting, settingStep, openingWalk, innerScope, nameOr, filedCells, closedWalk, headAfter, mapAfter, afterBody, rootWalk, rootScope, rulingOf, verdictOf, rulingNumbers};
 
 // Where a sentence stands: at the root, or in the body of a component.
 pub enum Place {
@@ -67,10 +68,10 @@ pub enum Listing {
     Done(usize, usize),
 }
 
-// A fault's number and place; or the row of the address map, and how many definitions and instances there are.
+// A fault's number and place; or the row of the address map, and how many definitions there are.
 pub enum Ruling {
     Fault(u8, usize),
-    Map(usize, usize, usize),
+    Map(usize, usize),
 }
 
 fn is_smaller(body: Kind, kind: Kind) -> bool
@@ -365,7 +366,7 @@ pub fn ruling_of(walk: Walk, end: usize) -> Ruling
     let map = walk.map;
     match map {
         Given::Nothing => Ruling::Fault(10, end),
-        Given::Number(row) => Ruling::Map(row as usize, walk.closed, walk.filed),
+        Given::Number(row) => Ruling::Map(row as usize, walk.closed),
     }
 }
 
@@ -396,10 +397,11 @@ pub fn root_scope() -> Scope
 }
 
 pub fn verdict_of(ruling: Ruling) -> Verdict
-    ensures { λ r. ⌜ r ≡ verdictOf ruling ⌝ }
+    ensures answer { λ r. ⌜ r ≡ verdictOf ruling ⌝ }
+    ensures numbers { λ r. ⌜ verdictNumbers r ≡ rulingNumbers ruling ⌝ }
 {
     match ruling {
         Ruling::Fault(number, place) => lex::refuse(number, place),
-        Ruling::Map(_, _, _) => Verdict::Accepted,
+        Ruling::Map(_, _) => Verdict::Accepted,
     }
 }

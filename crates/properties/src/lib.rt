@@ -62,7 +62,7 @@ fn slot_number(slot: Slot) -> u8
 }
 
 // What a property is set to.
-pub fn given_in(settings: Settings, slot: Slot) -> Given
+fn given_in(settings: Settings, slot: Slot) -> Given
     ensures { λ r. ⌜ r ≡ givenIn settings slot ⌝ }
 {
     match slot {
@@ -117,7 +117,7 @@ fn replace_in(settings: Settings, at: Slot, slot: Slot, number: u64) -> Given
 }
 
 // The settings with one property set.
-pub fn assign_slot(s: Settings, slot: Slot, n: u64) -> Settings
+fn assign_slot(s: Settings, slot: Slot, n: u64) -> Settings
     ensures { λ r. ⌜ r ≡ assign s slot n ⌝ }
 {
     let sw = replace_in(s, Slot::Sw, slot, n);

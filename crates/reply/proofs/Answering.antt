@@ -5,7 +5,7 @@ use mathlib.Core.List.{List}
 use Prim.Native.Nat.{ℕ, _-_, _*_, _^_, _<_, _≤_}
 use native.Mathlib.Omega.{arith}
 use lib.Dec.{ltb}
-use lib.ListN.{length, take, drop, length-append, replicate, length-replicate}
+use lib.ListN.{length, getD, take, drop, length-append, replicate, length-replicate}
 use lib.Seq.{take-at}
 use borrow.Author.Tests.{le-ltb}
 use Rattle.chars.specs.Choice.{if_then_else_}
@@ -19,7 +19,7 @@ use Rattle.listing.specs.declared.Listed.the-variants as listed
 use Rattle.listing.specs.Listing.{listingOf, listed}
 use Rattle.compile.specs.declared.Compiled.{Compiled}
 use Rattle.compile.specs.declared.Compiled.the-variants.{Refused, Accepted}
-use Rattle.compile.specs.Compiled.{compiled, isShort, refused, answered, over, overAll, lentAfter, numbersOf}
+use Rattle.compile.specs.Compiled.{compiled, isShort, refused, answered, over, overAll, lentAfter, compiledNumbers}
 use Rattle.lawful.proofs.Lawful.{accepted-sound, accepted-lawful, accepted-read}
 use Rattle.reply.specs.Reply.{refusalLine, shown, replyTo, shownOf, Shows}
 
@@ -105,7 +105,7 @@ module _ (text : List ℕ) (lent : Tables) (l : Large lent) where
         by : (j : Judged Map) → compiled text ≡ j → refusalLine n (p .at) ≡ shown room (compiled text)
         by (fault k q) e =
             let y : Refused n p ≡ refused k q = sym z ∙ a ∙ fault-answer k q e in
-            ap (λ (x : Compiled). refusalLine (numbersOf x .refusal) (numbersOf x .place)) y ∙ ap (shown room) (sym e)
+            ap (λ (x : Compiled). refusalLine (getD (compiledNumbers x) 0 0) (getD (compiledNumbers x) 1 0)) y ∙ ap (shown room) (sym e)
         by (fine m) e =
             let y : Refused n p ≡ Accepted (length (m .entries)) (fieldsIn (m .entries)) = sym z ∙ a ∙ fine-answer m e in
             absurd (let x : _≡_ {A = ℕ} 0 1 = cc in omega arith)
@@ -121,8 +121,8 @@ module _ (text : List ℕ) (lent : Tables) (l : Large lent) where
         by (fine m) e =
             let y : Accepted count all ≡ Accepted (length (m .entries)) (fieldsIn (m .entries)) = sym z ∙ a ∙ fine-answer m e in
             let s : SoundMap m = accepted-sound text m e in
-            let c : count ≡ length (m .entries) = ap (λ (x : Compiled). numbersOf x .registers) y in
-            let f : all ≡ fieldsIn (m .entries) = ap (λ (x : Compiled). numbersOf x .fields) y in
+            let c : count ≡ length (m .entries) = ap (λ (x : Compiled). getD (compiledNumbers x) 2 0) y in
+            let f : all ≡ fieldsIn (m .entries) = ap (λ (x : Compiled). getD (compiledNumbers x) 3 0) y in
             let t : after ≡ overAll (tablesOf m) lent = w ∙ fine-tables m e in
             let n1 : length (tablesOf m .registers) ≡ count * 14 = omega (arith, length-registerTable 0 (m .entries), c) in
             let n2 : length (tablesOf m .paths) ≡ count * 288 = omega (arith, length-pathTable (m .name) (m .entries), c) in

@@ -19,7 +19,7 @@ use Rattle.lines.specs.Sinks.{isFull, behind, poured, withByte, filled, Pours}
 use Rattle.lines.proofs.Pouring.{poured-append, filled-append, pours-then}
 use Rattle.listing.specs.declared.Listed.{Listed}
 use Rattle.listing.specs.declared.Listed.the-variants.{Refused, Written}
-use Rattle.listing.specs.Listing.{listingOf, listed, outputOf, countOf}
+use Rattle.listing.specs.Listing.{listingOf, listed, outputOf}
 use Rattle.listing.proofs.Answers.{poured-fits, filled-fits}
 use Rattle.compile.specs.Compiled.{compiled, over}
 use Rattle.reply.specs.Reply.{refusalLine, shown, replyTo, shownOf, Shows}
@@ -127,7 +127,7 @@ module _ (t : Tables) (before : List ℕ) {after : List ℕ} {r : Listed} (e : r
           → (n ≡ length (listingOf (rowsIn t))) × (length (listingOf (rowsIn t)) ≤ length before)
       by false b q z = absurd (let y : _≡_ {A = ℕ} 0 1 = cc in omega arith)
       by true true q z = absurd (let y : _≡_ {A = ℕ} 0 1 = cc in omega arith)
-      by true false q z = (ap countOf z, ltb-false (length before) (length (listingOf (rowsIn t))) q)
+      by true false q z = (cc, ltb-false (length before) (length (listingOf (rowsIn t))) q)
 
   pub listing-written : {n : ℕ} → r ≡ Written n → Shows before after (shownOf (listingOf (rowsIn t)) (listed (length before) t)) n
   listing-written {n} z =

@@ -22,7 +22,8 @@ use Rattle.table.specs.Definitions.{Child, Definition, noDefinition, definition
 use Rattle.table.specs.Relation.{Block, block-end, block-on, IsRow, Holds}
 use Rattle.table.proofs.Laws.{written-same, written-other, written-length, moved-same, moved-other, moved-length, values-component}
 use Rattle.closing.specs.Registers.{closingFault}
-use Rattle.closing.specs.Relation.{Closes}
+use Rattle.closing.specs.Decoded.{closingIn}
+use Rattle.closing.proofs.Laws.{stored-closing}
 use Rattle.places.specs.Walks.{nameOr, rowOf, filedCells, closedWalk}
 use Rattle.places.specs.declared.Walk.{Walk}
 use Rattle.places.specs.declared.Scope.{Scope}
@@ -113,11 +114,11 @@ kind-of-component kind.Reg s = refl
 kind-of-component kind.Field s = refl
 
 module _ (text t : List ℕ) (header : Header) (scope : Scope) (w : Walk) (brace next : ℕ) {c : Component} (e : c ≡ componentOf (header .kind) (nearest (w .assigned .own) (scope .defaults)))
-    {n : ℕ} (f : Closes text t (openAt + scope .first) (openAt + w .held) c n) where
+    {n : ℕ} (f : n ≡ closingIn text t (openAt + scope .first) (openAt + w .held) c) where
   fault-of : (s : State) → Standing text t scope w s → n ≡ closingFault (s .known .table) (componentOf (header .kind) (nearest (s .assigned .own) (scope .defaults))) (s .held)
   fault-of s st =
       let z : openAt + scope .first + length (s .held) ≡ openAt + w .held = omega (arith, st .count) in
-      let a = f .each (s .known .table) (s .held) (rw z at (stored-of (st .rows) (st .held) (st .sound))) in
+      let a = f ∙ stored-closing c (rw z at (stored-of (st .rows) (st .held) (st .sound))) in
       rw (e, st .assigned) at a
 
   pub close-fault : 0 < n → Closing text t t header scope w brace next (step.Fault n brace)

@@ -16,7 +16,9 @@ use Rattle.properties.specs.Judged.{Judged, fault, fine, unless}
 use Rattle.properties.specs.Assigned.{isGiven}
 use Rattle.properties.specs.declared.Given.{Given}
 use Rattle.table.specs.Definitions.{Entry, lookup}
-use Rattle.table.specs.Relation.{Chain, Finds}
+use Rattle.table.specs.Decoded.{typesIn}
+use Rattle.table.specs.Relation.{Chain}
+use Rattle.table.proofs.Laws.{chain-types}
 use Rattle.places.specs.Places.{mayDefine, isBadMap}
 use Rattle.places.specs.declared.Walk.{Walk}
 use Rattle.places.specs.declared.Scope.{Scope}
@@ -29,14 +31,17 @@ module _ (text t : List ℕ) (base head : ℕ) (name : DefinedName) where
   unfolding unless
   name-unnamed e = record { each = λ here c rest. rw e }
 
-  module _ {n : Name} {m : Given} {b : Bool} (e : name ≡ Named n) (f : Finds text t head base n m) (g : b ≡ isGiven m) where
+  module _ {n : Name} {m : Given} {b : Bool} (e : name ≡ Named n) (f : m ≡ lookup text n (typesIn t base head)) (g : b ≡ isGiven m) where
+    meant : (here : List Entry) → Chain t base head here → lookup text n here ≡ m
+    meant here c = rw (← chain-types head (omega arith) c) (sym f)
+
     pub name-twice : b ≡ true → NameFault text t base head name (Broken 6 (n .start))
     unfolding unless
-    name-twice y = record { each = λ here c rest. rw (e, ← f .each here c, ← g, y) }
+    name-twice y = record { each = λ here c rest. rw (e, meant here c, ← g, y) }
 
     pub name-once : b ≡ false → NameFault text t base head name Sound
     unfolding unless
-    name-once y = record { each = λ here c rest. rw (e, ← f .each here c, ← g, y) }
+    name-once y = record { each = λ here c rest. rw (e, meant here c, ← g, y) }
 
 module _ (text t : List ℕ) (scope : Scope) (w : Walk) (h : Header) {d : Bool} (e : d ≡ mayDefine (scope .place) (h .kind)) where
   pub header-kind : d ≡ false → HeaderFault text t scope w h (Broken 10 (h .place))

@@ -2,7 +2,7 @@
 use mathlib.Core.Path.{_≡_, refl, sym, ap, _∙_}
 use mathlib.Core.Bool.{Bool, true, false, not}
 use mathlib.Core.List.{List, [], _∷_, _++_}
-use Prim.Native.Nat.{ℕ, zero, suc, _+_, _*_, _<_, _≤_}
+use Prim.Native.Nat.{ℕ, zero, suc, _+_, _-_, _*_, _<_, _≤_}
 use native.Mathlib.Omega.{arith}
 use lib.ListN.{length, getD, set, length-set, length-append}
 use lib.Seq.{getD-set-same, getD-set-other}
@@ -18,8 +18,9 @@ use Rattle.properties.specs.Judged.{Judged, fault, fine, unless}
 use Rattle.components.specs.Components.{kindOf}
 use Rattle.table.specs.Cells.{cellOf, filedAt, openAt, size, entryOf, placeIn, rowIn, printIn}
 use Rattle.table.specs.Definitions.{Child, Definition, definitionOf, namesOf}
-use Rattle.table.specs.Relation.{IsEntry, Block, Among}
-use Rattle.table.proofs.Laws.{entry-place, entry-row, entry-print}
+use Rattle.table.specs.Decoded.{someNamed}
+use Rattle.table.specs.Relation.{IsEntry, Block}
+use Rattle.table.proofs.Laws.{entry-place, entry-row, entry-print, block-named}
 use Rattle.places.specs.Places.{mayHold}
 use Rattle.places.specs.declared.Scope.{Scope}
 use Rattle.rules.specs.Judge.{judgeInstances, found}
@@ -30,9 +31,10 @@ use Rattle.rules.proofs.Frames.{kept-same, block-kept, block-more, soun
 pub differ : {X : Type 0} → true ≡ false → X
 differ e = absurd (let z : _≡_ {A = ℕ} 0 1 = cc in omega arith)
 
-module _ (text t : List ℕ) (scope : Scope) (held : ℕ) (kind : Kind) (i : Instance) {h : Bool} (a : Among text t (openAt + scope .first) (openAt + held) (i .name) h) where
+module _ (text t : List ℕ) (scope : Scope) (held : ℕ) (kind : Kind) (i : Instance) {h : Bool}
+    (a : h ≡ someNamed text t (openAt + scope .first) (openAt + held - (openAt + scope .first)) (i .name)) where
   among : (cs : List Child) → Block text t (openAt + scope .first) cs → held ≡ scope .first + length cs → h ≡ isAmong text (i .name) (namesOf cs)
-  among cs b q = a .each cs b (omega (arith, q))
+  among cs b q = let n : openAt + held - (openAt + scope .first) ≡ length cs = omega (arith, q) in a ∙ (rw n (block-named text t (i .name) b))
 
   pub rules-twice : h ≡ true → InstanceRules text t scope held kind i (Broken 6 (i .name .start))
   unfolding unless

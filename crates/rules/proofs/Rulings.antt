@@ -6,10 +6,10 @@ use Prim.Native.Nat.{ℕ, zero, suc, _+_, _<_, _≤_}
 use native.Mathlib.Omega.{arith}
 use lib.Dec.{ltb}
 use lib.ListN.{length, getD}
-use borrow.Author.Tests.{ltb-false, lt-ltb, le-ltb}
+use borrow.Author.Tests.{ltb-false}
 use Rattle.chars.specs.Choice.{if_then_else_}
 use Rattle.lex.specs.Limits.{textLimit}
-use Rattle.lex.specs.Words.{refused, wordsVerdict, firstBad}
+use Rattle.lex.specs.Words.{refused, wordsVerdict, verdictNumbers, firstBad}
 use Rattle.lex.specs.declared.Place.{Place as TextPlace}
 use Rattle.lex.specs.declared.Verdict.{Verdict}
 use Rattle.lex.specs.declared.Verdict.the-variants.{Accepted, Refused}
@@ -19,7 +19,7 @@ use Rattle.syntax.specs.Tree.{Body}
 use Rattle.syntax.specs.Grammar.{fileAt}
 use Rattle.syntax.specs.Answers.{answerOf, verdictOf as sentenceVerdictOf, sentenceVerdict}
 use Rattle.properties.specs.Judged.{Judged, fault, fine}
-use Rattle.table.specs.Cells.{cellOf, filedAt, size, componentIn, firstIn, countIn, placeIn, rowIn}
+use Rattle.table.specs.Cells.{cellOf, filedAt, size, filedRoom, componentIn, firstIn, countIn, placeIn, rowIn}
 use Rattle.table.specs.Definitions.{Child, Definition, noDefinition}
 use Rattle.table.specs.Relation.{IsEntry, Block, block-end, block-on, IsRow, Holds}
 use Rattle.places.specs.Walks.{verdictOf}
@@ -27,7 +27,8 @@ use Rattle.places.specs.declared.Ruling.{Ruling}
 use Rattle.places.specs.declared.Ruling.the-variants as ruling
 use Rattle.rules.specs.Judge.{Meaning, judge}
 use Rattle.rules.specs.Standing.{FileMatches, file-fault, file-map, Rules}
-use Rattle.rules.specs.Rules.{afterWords, afterSentences, ruled, ruledIn, judgedVerdict, rulesVerdict, withInstance, instancesIn, definitionIn, definitionsIn, ruledAs, Held, held-not, held-all}
+use Rattle.rules.specs.Rules.{afterWords, afterSentences, ruled, judgedVerdict, rulesVerdict, judgedNumbers, withInstance, instancesIn, definitionIn, definitionsIn, ruledAs, Held, held-not, held-all, Worked}
+use Rattle.rules.proofs.Frames.{row-later}
 
 -- the cells say what they hold
 pub instances-said : {text t : List ℕ} {i : ℕ} {cs : List Child} → Block text t i cs → instancesIn text t i (length cs) ≡ cs
@@ -58,14 +59,13 @@ words-short text e f = by (ltb textLimit (length text)) refl (sym e ∙ f)
     by true q r = absurd (let z : _≡_ {A = ℕ} 0 1 = cc in omega arith)
     by false q r = ltb-false textLimit (length text) q
 
--- with few cells, and with enough
-pub ruled-few : (text : List ℕ) (n : ℕ) → n < size → fault 22 0 ≡ ruledIn n text
-unfolding ruledIn
-ruled-few text n l = rw (lt-ltb n size l)
+-- what stands among the first instances stands in the room for all of them
+holds-room : {text t : List ℕ} {closed filed : ℕ} {table : List Definition} → filed ≤ filedRoom → Holds text t closed filed table → Holds text t closed filedRoom table
+holds-room few h = record { count = h .count; each = λ r l. row-later few (h .each r l) }
 
-pub ruled-enough : (text : List ℕ) (n : ℕ) → size ≤ n → ruled text ≡ ruledIn n text
-unfolding ruledIn
-ruled-enough text n l = rw (le-ltb n size l)
+-- words and sentences leave the cells alone
+pub worked-untouched : (text t : List ℕ) {n p : ℕ} → Worked text t t (ruling.Fault n p)
+worked-untouched text t = record { long = refl; held = held-not; words = λ n p q. refl; sentences = λ n p q. refl }
 
 -- the stages
 module _ (text t : List ℕ) {v : Verdict} (e : v ≡ wordsVerdict text) where
@@ -82,36 +82,57 @@ module _ (text t : List ℕ) {v : Verdict} (e : v ≡ wordsVerdict text) where
         by (ok b m) q = absurd (let z : _≡_ {A = ℕ} 0 1 = cc in omega arith)
         by (stop m q) r = let a : m ≡ n = cc in let b : q ≡ p .at = cc in rw (a, b)
 
-    pub ruled-rules : {t₀ : List ℕ} {r : Ruling} → w ≡ Accepted → size ≤ length t₀ → Rules text t₀ t r → ruledAs text t r ≡ ruled text
-    unfolding ruled sentenceVerdict answerOf
-    ruled-rules {t₀} {r} h l x = rw (sym e ∙ f) (by (fileAt text) refl (sym g ∙ h))
-      where
-        matched : {j : Judged Meaning} {r : Ruling} → FileMatches text t j r → ruledAs text t r ≡ j
-        matched file-fault = refl
-        matched (file-map {m = m} k few room) = rw (table-said k)
+    module _ (h : w ≡ Accepted) {t₀ : List ℕ} {r : Ruling} (l : size ≤ length t₀) (x : Rules text t₀ t r) where
+      not-words : {n : ℕ} {p : TextPlace} → wordsVerdict text ≡ Refused n p → ⊥
+      not-words q = let z : Accepted ≡ Refused _ _ = sym f ∙ e ∙ q in let o : _≡_ {A = ℕ} 0 1 = cc in omega arith
 
-        by : (y : Parsed Body) → fileAt text ≡ y → sentenceVerdictOf (answerOf y) ≡ Accepted → ruledAs text t r ≡ afterSentences text y
-        by (ok b n) q z = matched (x .each b n l q)
-        by (stop n p) q z = absurd (let o : _≡_ {A = ℕ} 0 1 = cc in omega arith)
+      not-sentences : {n p : ℕ} → fileAt text ≡ stop n p → ⊥
+      unfolding sentenceVerdict answerOf
+      not-sentences {n} {p} q =
+          let z : Accepted ≡ refused n p = sym h ∙ g ∙ ap (λ (y : Parsed Body). sentenceVerdictOf (answerOf y)) q in let o : _≡_ {A = ℕ} 0 1 = cc in omega arith
 
--- and hold it
-module _ (text t : List ℕ) {v w : Verdict} (f : v ≡ Accepted) (e : v ≡ wordsVerdict text) (g : w ≡ sentenceVerdict text) (h : w ≡ Accepted) {t₀ : List ℕ} (l : size ≤ length t₀) where
-  pub held-rules : {r : Ruling} → Rules text t₀ t r → Held text t r
-  unfolding sentenceVerdict answerOf
-  held-rules {r} x = by (fileAt text) refl (sym g ∙ h)
+      ruled-so : ruledAs text t r ≡ ruled text
+      unfolding ruled
+      ruled-so = rw (sym e ∙ f) (by (fileAt text) refl)
+        where
+          matched : {j : Judged Meaning} {r : Ruling} → FileMatches text t j r → ruledAs text t r ≡ j
+          matched file-fault = refl
+          matched (file-map k few room) = rw (table-said k)
+
+          by : (y : Parsed Body) → fileAt text ≡ y → ruledAs text t r ≡ afterSentences text y
+          by (ok b n) q = matched (x .each b n l q)
+          by (stop n p) q = absurd (not-sentences q)
+
+      worked-so : Worked text t₀ t r
+      worked-so = record { long = x .long; held = by (fileAt text) refl; words = λ n p q. absurd (not-words q); sentences = λ n p q. absurd (not-sentences q) }
+        where
+          matched : {j : Judged Meaning} {r : Ruling} → FileMatches text t j r → Held text t r
+          matched file-fault = held-not
+          matched (file-map {m = m} k few room) = held-all {row = m .map} few (rw (table-said k) (holds-room room k))
+
+          by : (y : Parsed Body) → fileAt text ≡ y → Held text t r
+          by (ok b n) q = matched (x .each b n l q)
+          by (stop n p) q = absurd (not-sentences q)
+
+      pub rules-done : (ruledAs text t r ≡ ruled text) × Worked text t₀ t r
+      rules-done = (ruled-so, worked-so)
+
+-- the verdict, and its numbers
+module _ (text t : List ℕ) (r : Ruling) {v : Verdict} (e : ruledAs text t r ≡ ruled text) (f : v ≡ verdictOf r) where
+  verdict-so : v ≡ rulesVerdict text
+  unfolding rulesVerdict
+  verdict-so = f ∙ by r ∙ ap judgedVerdict e
     where
-      matched : {j : Judged Meaning} {r : Ruling} → FileMatches text t j r → Held text t r
-      matched file-fault = held-not
-      matched (file-map {m = m} {closed} {filed} k few room) = held-all {row = m .map} few room (rw (table-said k) k)
+      by : (r : Ruling) → verdictOf r ≡ judgedVerdict (ruledAs text t r)
+      by (ruling.Fault n p) = refl
+      by (ruling.Map row closed) = refl
 
-      by : (y : Parsed Body) → fileAt text ≡ y → sentenceVerdictOf (answerOf y) ≡ Accepted → Held text t r
-      by (ok b n) q z = matched (x .each b n l q)
-      by (stop n p) q z = absurd (let o : _≡_ {A = ℕ} 0 1 = cc in omega arith)
+  numbers-so : verdictNumbers v ≡ judgedNumbers (ruled text)
+  numbers-so = ap verdictNumbers f ∙ by r ∙ ap judgedNumbers e
+    where
+      by : (r : Ruling) → verdictNumbers (verdictOf r) ≡ judgedNumbers (ruledAs text t r)
+      by (ruling.Fault n p) = refl
+      by (ruling.Map row closed) = refl
 
-pub verdict-ruled : (text t : List ℕ) (n : ℕ) (r : Ruling) {v : Verdict} → size ≤ n → ruledAs text t r ≡ ruledIn n text → v ≡ verdictOf r → v ≡ rulesVerdict text
-unfolding rulesVerdict
-verdict-ruled text t n r l e f = f ∙ by r ∙ ap judgedVerdict (e ∙ sym (ruled-enough text n l))
-  where
-    by : (r : Ruling) → verdictOf r ≡ judgedVerdict (ruledAs text t r)
-    by (ruling.Fault n p) = refl
-    by (ruling.Map row closed filed) = refl
+  pub verdict-ruled : (v ≡ rulesVerdict text) × (verdictNumbers v ≡ judgedNumbers (ruled text))
+  verdict-ruled = (verdict-so, numbers-so)

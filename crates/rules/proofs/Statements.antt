@@ -27,7 +27,9 @@ use Rattle.properties.specs.declared.Assigned.{Assigned}
 use Rattle.components.specs.Components.{kindOf}
 use Rattle.table.specs.Cells.{openAt, size, componentIn}
 use Rattle.table.specs.Definitions.{Child, Definition, definitionOf, Entry, lookup}
-use Rattle.table.specs.Relation.{Block, Holds, Chain, Finds}
+use Rattle.table.specs.Decoded.{typesIn}
+use Rattle.table.specs.Relation.{Block, Holds, Chain}
+use Rattle.table.proofs.Laws.{chain-types, type-low}
 use Rattle.places.specs.Walks.{listedWalk, afterListing, assignedWalk, afterSetting, settingStep}
 use Rattle.places.specs.declared.Place.the-variants.{Inside}
 use Rattle.places.specs.declared.Walk.{Walk}
@@ -136,12 +138,12 @@ module _ (text t : List ℕ) (scope : Scope) (w : Walk) where
       named : ok name next ≡ nameAt text (w .at)
       named = rw f at e
 
-      pub use-usable : {meaning : Given} → Fits (length text) scope w → Finds text t (w .head) 0 name meaning → Usable (length text) scope w next meaning
+      pub use-usable : {meaning : Given} → Fits (length text) scope w → meaning ≡ lookup text name (typesIn t 0 (w .head)) → Usable (length text) scope w next meaning
       use-usable g h =
           let b = ends-of (name-ends text (w .at)) (sym named) in
-          record { fits = g; past = omega arith; low = λ d q. omega (arith, h .low d q, g .head) }
+          record { fits = g; past = omega arith; low = λ d q. omega (arith, type-low (w .head) text t 0 (w .head) name (sym h ∙ q), g .head) }
 
-      pub use-steps : {u : List ℕ} {meaning : Given} {r : Step} → Finds text t (w .head) 0 name meaning → Uses text t u scope w name next meaning r
+      pub use-steps : {u : List ℕ} {meaning : Given} {r : Step} → meaning ≡ lookup text name (typesIn t 0 (w .head)) → Uses text t u scope w name next meaning r
           → Steps text t u scope w (λ e n. instanceStatementAt text (w .at) ≡ ok e n) r
       unfolding instanceStatementAt andThen judgeElem
       use-steps {u} {meaning} {r} h v = record { kept = v .kept; moves = v .moves; each = each }
@@ -151,7 +153,7 @@ module _ (text t : List ℕ) (scope : Scope) (w : Walk) where
           each e n env s q st c =
               let o : mapped (instances name) (instancesAt text next) ≡ ok e n = rw (sym named) at q in
               let p = mapped-piece (instances name) (instancesAt text next) o in
-              let m : meaning ≡ lookup text name (s .known .here ++ env) = h .each (s .known .here ++ env) (chain-join (st .types) c) in
+              let m : meaning ≡ lookup text name (s .known .here ++ env) = h ∙ ap (lookup text name) (chain-types (w .head) (omega arith) (chain-join (st .types) c)) in
               let k : Matches text u scope n (judgeUse text (scope .place) name (p .piece) s (lookup text name (s .known .here ++ env))) r =
               subst (λ (g : Given). Matches text u scope n (judgeUse text (scope .place) name (p .piece) s g) r) m (v .each (p .piece) n s (p .read) st) in
               rw (← p .made) k

@@ -1,9 +1,10 @@
 -- The rules stage of a text: the first refusal by words, sentences and rules, or what the text means; and what the cells say of it.
+use mathlib.Core.Path.{_≡_}
 use mathlib.Core.List.{List, [], _∷_}
 use Prim.Native.Nat.{ℕ, zero, suc, _+_, _≤_}
-use lib.Dec.{ltb}
-use Rattle.chars.specs.Choice.{if_then_else_}
+use lib.ListN.{length}
 use Rattle.lex.specs.Words.{refused, wordsVerdict}
+use Rattle.lex.specs.declared.Place.{Place}
 use Rattle.lex.specs.declared.Verdict.{Verdict}
 use Rattle.lex.specs.declared.Verdict.the-variants.{Accepted, Refused}
 use Rattle.parts.specs.Reading.{Parsed, ok, stop}
@@ -12,7 +13,7 @@ use Rattle.parts.specs.declared.Instance.{Instance}
 use Rattle.syntax.specs.Tree.{Body}
 use Rattle.syntax.specs.Grammar.{fileAt}
 use Rattle.properties.specs.Judged.{Judged, fault, fine}
-use Rattle.table.specs.Cells.{cellOf, filedAt, size, componentIn, firstIn, countIn, placeIn, rowIn}
+use Rattle.table.specs.Cells.{cellOf, filedAt, filedRoom, componentIn, firstIn, countIn, placeIn, rowIn}
 use Rattle.table.specs.Definitions.{Child, Definition}
 use Rattle.table.specs.Relation.{Holds}
 use Rattle.places.specs.declared.Ruling.{Ruling}
@@ -32,10 +33,6 @@ afterSentences text (stop n p) = fault n p
 unfoldable pub ruled : List ℕ → Judged Meaning
 ruled text = afterWords (wordsVerdict text) (afterSentences text (fileAt text))
 
--- with so many cells to work in: 22 where they are too few
-unfoldable pub ruledIn : ℕ → List ℕ → Judged Meaning
-ruledIn cells text = if ltb cells size then fault 22 0 else ruled text
-
 -- the first refusal, or none
 abbrev pub judgedVerdict : Judged Meaning → Verdict
 judgedVerdict (fault n p) = refused n p
@@ -43,6 +40,11 @@ judgedVerdict (fine m) = Accepted
 
 unfoldable pub rulesVerdict : List ℕ → Verdict
 rulesVerdict text = judgedVerdict (ruled text)
+
+-- the same in document 01's numbers: the refusal or 0, and its place
+abbrev pub judgedNumbers : Judged Meaning → List ℕ
+judgedNumbers (fault n p) = n ∷ p ∷ []
+judgedNumbers (fine m) = 0 ∷ 0 ∷ []
 
 -- what the cells say: the instances in `count` cells from the index `i` on, each read at its place in the text
 abbrev pub withInstance : ℕ → Parsed Instance → List Child → List Child
@@ -65,9 +67,17 @@ definitionsIn text t r (suc count) = definitionIn text t r ∷ definitionsIn tex
 -- what an answer means, with the cells
 abbrev pub ruledAs : List ℕ → List ℕ → Ruling → Judged Meaning
 ruledAs text t (ruling.Fault n p) = fault n p
-ruledAs text t (ruling.Map row closed filed) = fine (record { table = definitionsIn text t 0 closed; map = row })
+ruledAs text t (ruling.Map row closed) = fine (record { table = definitionsIn text t 0 closed; map = row })
 
 -- where a text is accepted, its cells hold its definitions
 pub data Held (text t : List ℕ) : Ruling → Type 0 where
   held-not : {n p : ℕ} → Held text t (ruling.Fault n p)
-  held-all : {row closed filed : ℕ} → closed ≤ definitionLimit → filed ≤ 32768 → Holds text t closed filed (definitionsIn text t 0 closed) → Held text t (ruling.Map row closed filed)
+  held-all : {row closed : ℕ} → closed ≤ definitionLimit → Holds text t closed filedRoom (definitionsIn text t 0 closed) → Held text t (ruling.Map row closed)
+
+-- What the cells hold after each answer: always as many; of an accepted text its definitions; of a text that words or sentences refuse
+-- what they held before; of a text that 5 to 18 refuse what the walk had written so far, which nothing asks for.
+pub record Worked (text before after : List ℕ) (r : Ruling) : Type 0 where
+  pub long : length after ≡ length before
+  pub held : Held text after r
+  pub words : (n : ℕ) (p : Place) → wordsVerdict text ≡ Refused n p → after ≡ before
+  pub sentences : (n p : ℕ) → fileAt text ≡ stop n p → after ≡ before

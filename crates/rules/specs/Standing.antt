@@ -22,7 +22,7 @@ use Rattle.properties.specs.Judged.{Judged, fault, fine, unless, onward}
 use Rattle.properties.specs.declared.Given.{Given}
 use Rattle.properties.specs.declared.Given.the-variants.{Number}
 use Rattle.components.specs.Components.{kindOf}
-use Rattle.table.specs.Cells.{cellOf, filedAt, openAt, size, nameIn, belowIn}
+use Rattle.table.specs.Cells.{cellOf, filedAt, openAt, size, filedRoom, nameIn, belowIn}
 use Rattle.table.specs.Definitions.{Child, Definition, definitionOf, namesOf, Entry}
 use Rattle.table.specs.Relation.{Block, Holds, Chain}
 use Rattle.rules.specs.Limits.{definitionLimit}
@@ -218,7 +218,7 @@ pub record BodySteps (text t u : List ℕ) (header : Header) (scope : Scope) (w 
 -- what a file is judged as
 pub data FileMatches (text u : List ℕ) : Judged Meaning → Ruling → Type 0 where
   file-fault : {number place : ℕ} → FileMatches text u (fault number place) (ruling.Fault number place)
-  file-map : {m : Meaning} {closed filed : ℕ} → Holds text u closed filed (m .table) → closed ≤ definitionLimit → filed ≤ 32768 → FileMatches text u (fine m) (ruling.Map (m .map) closed filed)
+  file-map : {m : Meaning} {closed filed : ℕ} → Holds text u closed filed (m .table) → closed ≤ definitionLimit → filed ≤ filedRoom → FileMatches text u (fine m) (ruling.Map (m .map) closed)
 
 pub record Rules (text t u : List ℕ) (r : Ruling) : Type 0 where
   pub long : length u ≡ length t

@@ -21,11 +21,12 @@ use vocabulary::Mark;
 ghost use mathlib.Core.Path.{_≡_};
 ghost use Prim.Native.Nat.{_+_, _*_, _<_, _≤_};
 ghost use lib.ListN.{length, set};
+ghost use Rattle.lex.specs.Words.{verdictNumbers};
 ghost use Rattle.parts.specs.Reading.{ok};
 ghost use Rattle.syntax.specs.Grammar.{instanceStatementAt, statementAt, definitionAt, bodyAt};
 ghost use Rattle.names.specs.Names.{fingerprint};
-ghost use Rattle.table.specs.Cells.{openAt, entryOf};
-ghost use Rattle.rules.specs.Rules.{ruledIn, rulesVerdict, ruledAs, Held};
+ghost use Rattle.table.specs.Cells.{size, openAt, entryOf};
+ghost use Rattle.rules.specs.Rules.{ruled, rulesVerdict, judgedNumbers, ruledAs, Worked};
 ghost use Rattle.rules.specs.Standing.{Fits, Steps, InstanceRules, Adds, Lists, Usable, Uses, HeaderFault, NameFault, Closing, BodySteps, Tails, Rules};
 
 const BODY_LIMIT: usize = 8;
@@ -361,13 +362,12 @@ fn judge_file(text: &[u8], cells: &mut [u64]) -> Ruling
 }
 
 // What the definitions of a text mean, in the cells; or its first refusal by words, sentences and rules. The cells are room to work in:
-// fewer than SIZE are 22, and what they hold after a refusal is left open.
+// whoever calls lends SIZE of them, so nothing is refused for want of room.
 pub fn define(text: &[u8], cells: &mut [u64]) -> Ruling
-    ensures { λ r. ⌜ (ruledAs (now (text .entry)) (now (cells .exit)) r ≡ ruledIn (length (now (cells .entry))) (now (text .entry))) × Held (now (text .entry)) (now (cells .exit)) r ⌝ }
+    requires { ⌜ size ≤ length (now cells) ⌝ }
+    ensures answer { λ r. ⌜ ruledAs (now (text .entry)) (now (cells .exit)) r ≡ ruled (now (text .entry)) ⌝ }
+    ensures cells { λ r. ⌜ Worked (now (text .entry)) (now (cells .entry)) (now (cells .exit)) r ⌝ }
 {
-    if cells.len() < table::SIZE {
-        return Ruling::Fault(22, 0);
-    }
     match lex::first_refusal(text) {
         Verdict::Refused(number, place) => Ruling::Fault(number, place.at),
         Verdict::Accepted => match syntax::first_refusal(text) {
@@ -379,7 +379,8 @@ pub fn define(text: &[u8], cells: &mut [u64]) -> Ruling
 
 // The first refusal of a text by words, sentences and rules, or none.
 pub fn first_refusal(text: &[u8]) -> Verdict
-    ensures { λ r. ⌜ r ≡ rulesVerdict (now (text .entry)) ⌝ }
+    ensures answer { λ r. ⌜ r ≡ rulesVerdict (now (text .entry)) ⌝ }
+    ensures numbers { λ r. ⌜ verdictNumbers r ≡ judgedNumbers (ruled (now (text .entry))) ⌝ }
 {
     let mut cells = [0u64; table::SIZE];
     places::verdict_of(define(text, &mut cells))

@@ -9,10 +9,14 @@ use lib.Dec.{eqb}
 use types.Run.{OneOf, miss}
 use denote.Enum.Declared.{tagOf}
 use borrow.Author.Tests.{eq-eqb, ne-eqb}
-use Rattle.settings.specs.Settings.{isPowerTo, listedSetting, shortSetting, numberSetting}
+use Rattle.vocabulary.specs.declared.Property.{Property}
+use Rattle.parts.specs.declared.Value.{Value}
+use Rattle.settings.specs.Settings.{termOf, wantedOf, isPowerTo, listedSetting, shortSetting, numberSetting, settingAs, settingOf, settingNumbers}
 use Rattle.settings.specs.declared.WordList.{WordList}
 use Rattle.settings.specs.declared.Term.{Term}
 use Rattle.settings.specs.declared.Term.the-variants.{Word, Number, Text, Other}
+use Rattle.settings.specs.declared.Wanted.{Wanted}
+use Rattle.settings.specs.declared.Setting.{Setting}
 use Rattle.settings.specs.declared.Setting.the-variants.{Wrong}
 use Rattle.settings.proofs.Term.{the-type}
 
@@ -72,3 +76,11 @@ number-else test (Word m c) o = refl
 number-else test (Number n) o = absurd (miss (0 ∷ 2 ∷ 3 ∷ []) 1 tt o)
 number-else test Text o = refl
 number-else test Other o = refl
+
+-- what a property statement sets, as a setting and in numbers
+pub set-numbers : (p : Property) (v : Value) {w : Wanted} {t : Term} {r : Setting} → w ≡ wantedOf p → t ≡ termOf v → r ≡ settingAs w t
+    → (r ≡ settingOf p v) × (settingNumbers r ≡ settingNumbers (settingOf p v))
+unfolding settingOf
+set-numbers p v e f g =
+    let h : _ ≡ settingAs (wantedOf p) (termOf v) = rw (e, f) at g in
+    (h, ap settingNumbers h)

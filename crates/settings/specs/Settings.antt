@@ -1,5 +1,6 @@
 -- Property statements (document 01, "Names, properties, fields"): where a property may stand (7), which property it sets, and to what (9).
 use mathlib.Core.Bool.{Bool, true, false, _||_, not}
+use mathlib.Core.List.{List, [], _∷_}
 use Prim.Native.Nat.{ℕ, zero, suc, _^_}
 use lib.Dec.{eqb}
 use Rattle.chars.specs.Choice.{if_then_else_}
@@ -200,6 +201,11 @@ settingAs wanted.String t = textSetting t
 
 unfoldable pub settingOf : Property → Value → Setting
 settingOf p v = settingAs (wantedOf p) (termOf v)
+
+-- a setting in document 01's numbers: 0, 0 and the number that is set; or 9, whose place is below, and 0
+abbrev pub settingNumbers : Setting → List ℕ
+settingNumbers (Set n) = 0 ∷ 0 ∷ n ∷ []
+settingNumbers Wrong = 9 ∷ 0 ∷ 0 ∷ []
 
 -- the place of a 9: "value, or the property if it has none"
 abbrev pub valuePlace : ℕ → Value → ℕ

@@ -5,7 +5,7 @@ use vocabulary::Keyword;
 use vocabulary::Property;
 ghost use mathlib.Core.Path.{_≡_};
 ghost use Rattle.settings.specs.Codes.{accessCode, readCode, writeCode, modeCode, wordTerm};
-ghost use Rattle.settings.specs.Settings.{groupOf, isAddrmap, isSpace, isReg, isField, isFor, isDefaultable, isAllowed, slotOf, termOf, wantedOf, isWidth, isAlignment, listNumber, listedSetting, shortSetting, numberSetting, textSetting, inRange, settingAs, settingOf, valuePlace};
+ghost use Rattle.settings.specs.Settings.{groupOf, isAddrmap, isSpace, isReg, isField, isFor, isDefaultable, isAllowed, slotOf, termOf, wantedOf, isWidth, isAlignment, listNumber, listedSetting, shortSetting, numberSetting, textSetting, inRange, settingAs, settingOf, settingNumbers, valuePlace};
 
 // `sw` and `hw`; `wr` is `rw`.
 pub enum Access {
@@ -226,7 +226,7 @@ pub fn is_addrmap(kind: Kind) -> bool
     }
 }
 
-pub fn is_space(kind: Kind) -> bool
+fn is_space(kind: Kind) -> bool
     ensures { λ r. ⌜ r ≡ isSpace kind ⌝ }
 {
     match kind {
@@ -237,7 +237,7 @@ pub fn is_space(kind: Kind) -> bool
     }
 }
 
-pub fn is_reg(kind: Kind) -> bool
+fn is_reg(kind: Kind) -> bool
     ensures { λ r. ⌜ r ≡ isReg kind ⌝ }
 {
     match kind {
@@ -464,7 +464,8 @@ fn setting_as(wanted: Wanted, term: Term) -> Setting
 
 // What a property statement sets its property to.
 pub fn setting_of(property: Property, value: Value) -> Setting
-    ensures { λ r. ⌜ r ≡ settingOf property value ⌝ }
+    ensures answer { λ r. ⌜ r ≡ settingOf property value ⌝ }
+    ensures numbers { λ r. ⌜ settingNumbers r ≡ settingNumbers (settingOf property value) ⌝ }
 {
     setting_as(wanted_of(property), term_of(value))
 }

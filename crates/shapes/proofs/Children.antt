@@ -11,7 +11,7 @@ use Rattle.properties.specs.declared.Given.{Given}
 use Rattle.components.specs.Components.{kindOf}
 use Rattle.components.specs.declared.Offset.{Offset}
 use Rattle.components.specs.declared.Component.{Component}
-use Rattle.table.specs.Cells.{componentIn}
+use Rattle.table.specs.Cells.{filedRoom, componentIn}
 use Rattle.table.specs.Definitions.{Child, definitionOf}
 use Rattle.table.specs.Relation.{IsRow}
 use Rattle.sensible.specs.Sensible.{ChildFits, ChildrenFit, children-none, children-more}
@@ -35,7 +35,7 @@ ready-positive text t e row ready low f =
 -- an instance in the body of a row, whose own alignment is `a`
 pub record ReadyChild (text t : List ℕ) (e : Extent) (row : ℕ) (a : Given) (c : Child) : Type 0 where
   pub below : c .type < row
-  pub is-row : IsRow text t (e .filed) (c .type) (definitionOf (known text t e) (c .type))
+  pub is-row : IsRow text t filedRoom (c .type) (definitionOf (known text t e) (c .type))
   pub addressed : isField (kindOf (definitionOf (known text t e) (c .type) .component)) ≡ false
   pub sound : instanceFault (kindOf (definitionOf (known text t e) (c .type) .component)) (c .instance) ≡ Sound
   pub positive : Positive (shapeAt (allShapes text t e) (c .type))

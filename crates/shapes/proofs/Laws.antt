@@ -2,13 +2,13 @@
 use mathlib.Core.Bool.{Bool, true, false}
 use mathlib.Core.Path.{_≡_, refl, sym, ap, _∙_}
 use mathlib.Core.List.{List, [], _∷_, _++_}
-use Prim.Native.Nat.{ℕ, suc, _+_, _-_, _*_, _/_, _^_, _<_, _≤_}
+use Prim.Native.Nat.{ℕ, zero, suc, _+_, _-_, _*_, _/_, _^_, _<_, _≤_}
 use native.Mathlib.Numerals.{add-one}
 use native.Mathlib.Omega.{arith}
-use lib.Dec.{leb, ltb}
-use lib.ListN.{length, set, length-set}
-use lib.Seq.{getD-set-same, getD-set-other}
-use borrow.Author.Tests.{leb-true, leb-false, ltb-true, ltb-false}
+use lib.Dec.{leb}
+use lib.ListN.{length, set, getD, take, drop, length-append, length-drop}
+use lib.Seq.{length-take-le, take-all, take-suc, drop-cons, append-snoc, set-at, getD-take}
+use borrow.Author.Tests.{leb-true, leb-false}
 use Rattle.parts.specs.Reading.{ok}
 use Rattle.parts.specs.Parts.{instanceAt}
 use Rattle.parts.specs.Answers.{instanceRead}
@@ -23,11 +23,9 @@ use Rattle.components.specs.declared.FieldType.{FieldType}
 use Rattle.components.specs.declared.Register.{Register}
 use Rattle.components.specs.declared.Component.{Component}
 use Rattle.components.specs.declared.Component.the-variants as component
-use Rattle.table.specs.Cells.{cellOf, filedAt, componentIn, firstIn, countIn, placeIn, rowIn}
+use Rattle.table.specs.Cells.{cellOf, filedAt, filedRoom, componentIn, firstIn, countIn, placeIn, rowIn}
 use Rattle.table.specs.Definitions.{Child, Definition, definitionOf}
 use Rattle.table.specs.Relation.{IsEntry, Block, block-end, block-on, IsRow}
-use Rattle.rules.proofs.Instances.{length-more}
-use Rattle.rules.proofs.Closing.{getD-before, getD-last}
 use Rattle.sensible.specs.Sensible.{Fits, register-fits, ChildFits, ChildrenFit, children-more}
 use Rattle.offsets.specs.Offsets.{cap, cut, larger}
 use Rattle.offsets.proofs.Laws.{cut-bound, cut-low, cut-stays, cut-larger, larger-left, larger-right}
@@ -38,12 +36,12 @@ use Rattle.layout.specs.declared.Laid.{Laid}
 use Rattle.layout.proofs.Laws.{cut-laid}
 use Rattle.shapes.specs.declared.Extent.{Extent}
 use Rattle.shapes.specs.Ready.{known, Ready}
-use Rattle.shapes.specs.Shapes.{shapeIn, ShapesIn, GroupOf, of-regfile, of-map, GroupRow, allShapes, ShapesBefore, RowShape}
+use Rattle.shapes.specs.Shapes.{shapeWidth, shapesSize, shapeIn, shapeCells, ShapesIn, GroupOf, of-regfile, of-map, GroupRow, allShapes, ShapesBefore, RowShape}
 use Rattle.shapes.proofs.Rows.{shapes-length, RowFits, row-fits, Positive, width-range, group-aligned, group-shape, child-addressed, child-positive, child-fitting}
 
 -- a row of ready cells
 module _ (text t : List ℕ) (e : Extent) (row : ℕ) (ready : Ready text t e) (low : row < e .rows) where
-  pub ready-is-row : IsRow text t (e .filed) row (definitionOf (known text t e) row)
+  pub ready-is-row : IsRow text t filedRoom row (definitionOf (known text t e) row)
   ready-is-row = ready .holds .each row low
 
   -- its definition, with those before it
@@ -57,8 +55,8 @@ module _ (text t : List ℕ) (e : Extent) (row : ℕ) (ready : Ready text t e) (
   pub ready-count : countIn t row ≡ length (definitionOf (known text t e) row .instances)
   ready-count = ready-is-row .count
 
-  pub ready-within : firstIn t row + countIn t row ≤ 32768
-  ready-within = omega (arith, ready .room, ready-is-row .within, ready-is-row .count)
+  pub ready-within : firstIn t row + countIn t row ≤ filedRoom
+  ready-within = omega (arith, ready-is-row .within, ready-is-row .count)
 
   pub ready-low : row < 256
   ready-low = omega (arith, ready .few, low)
@@ -127,7 +125,7 @@ pub record Laying (text t s : List ℕ) (e : Extent) (row : ℕ) (a : Given) (to
   pub children : ChildrenFit (fits .before) (definitionOf (known text t e) row .component) rest
   pub behind : Offset
   pub cut-end : end ≡ cutOffset behind
-  pub sized : larger size (cut (highestEnd (laidFrom (e .mode) a (shapesFrom (e .mode) [] (fits .before)) behind rest))) ≡ cut (shapeAt (allShapes text t e) row .size)
+  pub sized : larger size (cut (highestEnd (laidFrom (e .mode) a (shapesFrom (e .mode) [] (fits .before)) behind rest) .0)) ≡ cut (shapeAt (allShapes text t e) row .size)
   pub accessed : larger access (cut (largestAccess (shapesFrom (e .mode) [] (fits .before)) rest)) ≡ cut (shapeAt (allShapes text t e) row .access)
 
 module _ (text t s : List ℕ) (e : Extent) (row : ℕ) (a : Given) where
@@ -150,7 +148,7 @@ module _ (text t s : List ℕ) (e : Extent) (row : ℕ) (a : Given) where
         children = f .fits .children;
         behind = bottom;
         cut-end = let w : cut 0 ≡ 0 = cut-low 0 (omega arith) in rw w;
-        sized = larger-first (cut (highestEnd (laidFrom (e .mode) a shapes bottom (d .instances)))) ∙ ap (λ (s : Shape). cut (s .size)) (sym z);
+        sized = larger-first (cut (highestEnd (laidFrom (e .mode) a shapes bottom (d .instances)) .0)) ∙ ap (λ (s : Shape). cut (s .size)) (sym z);
         accessed = larger-first (cut (largestAccess shapes (d .instances))) ∙ ap (λ (s : Shape). cut (s .access)) (sym z);
       }
 
@@ -178,8 +176,8 @@ same-made m a p q r = rw (p, q, r)
 
 -- one instance more, laid
 module _ (m : ℕ) (a : Given) (shapes : List Shape) (end : Offset) (c : Child) (cs : List Child) where
-  highest-more : highestEnd (laidFrom m a shapes end (c ∷ cs))
-      ≡ larger (laid m a (shapeAt shapes (c .type)) (c .instance) end .end .0) (highestEnd (laidFrom m a shapes (laid m a (shapeAt shapes (c .type)) (c .instance) end .end) cs))
+  highest-more : highestEnd (laidFrom m a shapes end (c ∷ cs)) .0
+      ≡ larger (laid m a (shapeAt shapes (c .type)) (c .instance) end .end .0) (highestEnd (laidFrom m a shapes (laid m a (shapeAt shapes (c .type)) (c .instance) end .end) cs) .0)
   unfolding laidFrom highestEnd
   highest-more = refl
 
@@ -187,7 +185,7 @@ module _ (m : ℕ) (a : Given) (shapes : List Shape) (end : Offset) (c : Child) 
   unfolding largestAccess
   access-more = refl
 
-highest-none : (m : ℕ) (a : Given) (shapes : List Shape) (end : Offset) → highestEnd (laidFrom m a shapes end []) ≡ 0
+highest-none : (m : ℕ) (a : Given) (shapes : List Shape) (end : Offset) → highestEnd (laidFrom m a shapes end []) .0 ≡ 0
 unfolding laidFrom highestEnd
 highest-none m a shapes end = refl
 
@@ -200,8 +198,8 @@ module _ (text t s : List ℕ) (e : Extent) (row : ℕ) (a : Given) {to i : ℕ}
   laying-end h =
       let table : List Shape = shapesFrom (e .mode) [] (l .fits .before) in
       let z : l .rest ≡ [] = none-left h (l .until) (l .block) in
-      let p : highestEnd (laidFrom (e .mode) a table (l .behind) (l .rest)) ≡ 0 =
-      ap (λ (cs : List Child). highestEnd (laidFrom (e .mode) a table (l .behind) cs)) z ∙ highest-none (e .mode) a table (l .behind) in
+      let p : highestEnd (laidFrom (e .mode) a table (l .behind) (l .rest)) .0 ≡ 0 =
+      ap (λ (cs : List Child). highestEnd (laidFrom (e .mode) a table (l .behind) cs) .0) z ∙ highest-none (e .mode) a table (l .behind) in
       let q : largestAccess table (l .rest) ≡ 0 = ap (largestAccess table) z ∙ access-none table in
       let u : size ≡ cut (shapeAt (allShapes text t e) row .size) = larger-none size ∙ ap (λ (n : ℕ). larger size (cut n)) (sym p) ∙ l .sized in
       let v : access ≡ cut (shapeAt (allShapes text t e) row .access) = larger-none access ∙ ap (λ (n : ℕ). larger access (cut n)) (sym q) ∙ l .accessed in
@@ -262,11 +260,11 @@ module _ (text t s : List ℕ) (e : Extent) (row : ℕ) (a : Given) {to i : ℕ}
           laying-next {v} {w} g q =
               let table : List Shape = shapesFrom (e .mode) [] (l .fits .before) in
               let own : Shape = shapeAt table (ahead .child .type) in
-              let other : ℕ = highestEnd (laidFrom (e .mode) a table (whole .end) (ahead .others)) in
+              let other : ℕ = highestEnd (laidFrom (e .mode) a table (whole .end) (ahead .others)) .0 in
               let b : v ≡ larger size (cut (whole .end .0)) = g ∙ ap (λ (n : Laid). larger size (n .end .0)) same-laid in
               let b′ : w ≡ larger access (cut (own .access)) = q ∙ ap (λ (n : Shape). larger access (n .access)) same-shape in
-              let m : highestEnd (laidFrom (e .mode) a table (l .behind) (l .rest)) ≡ larger (whole .end .0) other =
-              ap (λ (cs : List Child). highestEnd (laidFrom (e .mode) a table (l .behind) cs)) (ahead .whole) ∙ highest-more (e .mode) a table (l .behind) (ahead .child) (ahead .others) in
+              let m : highestEnd (laidFrom (e .mode) a table (l .behind) (l .rest)) .0 ≡ larger (whole .end .0) other =
+              ap (λ (cs : List Child). highestEnd (laidFrom (e .mode) a table (l .behind) cs) .0) (ahead .whole) ∙ highest-more (e .mode) a table (l .behind) (ahead .child) (ahead .others) in
               let m′ : largestAccess table (l .rest) ≡ larger (own .access) (largestAccess table (ahead .others)) =
               ap (largestAccess table) (ahead .whole) ∙ access-more (e .mode) a table (l .behind) (ahead .child) (ahead .others) in
               record {
@@ -331,86 +329,84 @@ module _ (text t : List ℕ) (e : Extent) (row : ℕ) {c : Component} (g : c ≡
         let z : s ≡ cutShape (record { size = r .width / 8; access = r .access / 8 }) = shape-of-parts a b in
         record { same = z ∙ ap cutShape (sym (shape-by f)) }
 
+-- the cells of some shapes
+cells-length : (shapes : List Shape) → length (shapeCells shapes) ≡ length shapes * shapeWidth
+unfolding shapeCells
+cells-length [] = refl
+cells-length (s ∷ shapes) = omega (arith, cells-length shapes)
+
+cells-more : (shapes : List Shape) (s : Shape) (rest : List ℕ) → shapeCells (shapes ++ (s ∷ [])) ++ rest ≡ shapeCells shapes ++ (cutShape s .size ∷ cutShape s .access ∷ rest)
+unfolding shapeCells
+cells-more [] s rest = refl
+cells-more (x ∷ shapes) s rest = rw (cells-more shapes s rest)
+
+cells-shape : (shapes : List Shape) (rest : List ℕ) (r : ℕ) → r < length shapes → shapeIn (shapeCells shapes ++ rest) r ≡ cutShape (shapeAt shapes r)
+unfolding shapeCells shapeIn
+cells-shape [] rest r l = absurd (omega (arith, l))
+cells-shape (s ∷ shapes) rest zero l = refl
+cells-shape (s ∷ shapes) rest (suc r) l =
+    let z : suc r * shapeWidth ≡ suc (suc (r * shapeWidth)) = omega arith in
+    let w : suc r * shapeWidth + 1 ≡ suc (suc (r * shapeWidth + 1)) = omega arith in
+    rw (w, z) (cells-shape shapes rest r (omega (arith, l)))
+
+-- two cells put behind others
+cells-put : (xs : List ℕ) (x y a b n : ℕ) (rest : List ℕ) → length xs ≡ n → set (set (xs ++ (x ∷ y ∷ rest)) n a) (n + 1) b ≡ xs ++ (a ∷ b ∷ rest)
+cells-put xs x y a b n rest e =
+    ap (λ (l : List ℕ). set l (n + 1) b) (set-at xs x (y ∷ rest) a n e ∙ sym (append-snoc xs a (y ∷ rest)))
+    ∙ set-at (xs ++ (a ∷ [])) y rest b (n + 1) (length-append xs (a ∷ []) ∙ omega (arith, e)) ∙ append-snoc xs a (b ∷ rest)
+
+-- what the cells of all shapes say of each row
+module _ (text t : List ℕ) (e : Extent) (ready : Ready text t e) where
+  all-length : length (allShapes text t e) ≡ e .rows
+  all-length = shapes-length (e .mode) [] (known text t e) ∙ (let k = ready .holds .count in omega (arith, k))
+
+  pub shapes-stored : {s : List ℕ} (rest : List ℕ) → s ≡ shapeCells (allShapes text t e) ++ rest → ShapesIn s (e .rows) (allShapes text t e)
+  shapes-stored rest g =
+      record {
+        count = all-length;
+        each = λ r l. ap (λ (x : List ℕ). shapeIn x r) g ∙ cells-shape (allShapes text t e) rest r (omega (arith, all-length, l));
+      }
+
 -- the rows up to one are filled
 pub record Filling (text t s₀ s : List ℕ) (e : Extent) (row : ℕ) : Type 0 where
   pub ready : Ready text t e
+  pub same : s ≡ shapeCells (take row (allShapes text t e)) ++ drop (row * shapeWidth) s₀
   pub before : ShapesBefore text t s e row
   pub kept : length s ≡ length s₀
-  pub long : 512 ≤ length s
+  pub long : shapesSize ≤ length s₀
   pub low : row ≤ e .rows
 
-pub filling-start : (text t s : List ℕ) (e : Extent) → Ready text t e → 512 ≤ length s → Filling text t s s e 0
-filling-start text t s e ready h =
+filling-by : (text t s₀ : List ℕ) (e : Extent) {s : List ℕ} {row : ℕ} → Ready text t e → shapesSize ≤ length s₀ → row ≤ e .rows
+    → s ≡ shapeCells (take row (allShapes text t e)) ++ drop (row * shapeWidth) s₀ → Filling text t s₀ s e row
+filling-by text t s₀ e {s} {row} ready h l g =
+    let shapes : List Shape = take row (allShapes text t e) in
+    let n : length shapes ≡ row = length-take-le row (allShapes text t e) (omega (arith, l, all-length text t e ready)) in
+    let m : length (shapeCells shapes) ≡ row * shapeWidth = cells-length shapes ∙ omega (arith, n) in
     record {
       ready = ready;
+      same = g;
       before =
           record {
-            shapes = [];
-            stored = record { count = refl; each = λ r l. absurd (omega (arith, l)) };
-            each = λ r l. absurd (omega (arith, l));
+            shapes = shapes;
+            stored = record { count = n; each = λ r k. ap (λ (x : List ℕ). shapeIn x r) g ∙ cells-shape shapes (drop (row * shapeWidth) s₀) r (omega (arith, n, k)) };
+            each = λ r k. getD-take row (allShapes text t e) r noShape k;
           };
-      kept = refl;
+      kept = ap length g ∙ length-append (shapeCells shapes) (drop (row * shapeWidth) s₀) ∙ omega (arith, m, length-drop (row * shapeWidth) s₀, h, l, ready .few);
       long = h;
-      low = omega arith;
+      low = l;
     }
 
--- the cells with one row more
-module _ (s : List ℕ) (row : ℕ) (shape : Shape) (h : row * 2 + 1 < length s) where
-  filled-other : (j : ℕ) → j < row * 2 → cellOf (set (set s (row * 2) (shape .size)) (row * 2 + 1) (shape .access)) j ≡ cellOf s j
-  filled-other j l =
-      getD-set-other (set s (row * 2) (shape .size)) (row * 2 + 1) j (shape .access) 0 (λ q. omega (arith, l, q))
-      ∙ getD-set-other s (row * 2) j (shape .size) 0 (λ q. omega (arith, l, q))
-
-  filled-before : (r : ℕ) → r < row → shapeIn (set (set s (row * 2) (shape .size)) (row * 2 + 1) (shape .access)) r ≡ shapeIn s r
-  unfolding shapeIn
-  filled-before r l = rw (filled-other (r * 2) (omega (arith, l)), filled-other (r * 2 + 1) (omega (arith, l)))
-
-  filled-here : shapeIn (set (set s (row * 2) (shape .size)) (row * 2 + 1) (shape .access)) row ≡ shape
-  unfolding shapeIn
-  filled-here =
-      let k : row * 2 + 1 < length (set s (row * 2) (shape .size)) = rw (length-set s (row * 2) (shape .size)) h in
-      let a : cellOf (set (set s (row * 2) (shape .size)) (row * 2 + 1) (shape .access)) (row * 2) ≡ shape .size =
-      getD-set-other (set s (row * 2) (shape .size)) (row * 2 + 1) (row * 2) (shape .access) 0 (λ q. omega (arith, q)) ∙ getD-set-same s (row * 2) (shape .size) 0 (omega (arith, h)) in
-      let b : cellOf (set (set s (row * 2) (shape .size)) (row * 2 + 1) (shape .access)) (row * 2 + 1) ≡ shape .access =
-      getD-set-same (set s (row * 2) (shape .size)) (row * 2 + 1) (shape .access) 0 k in
-      rw (a, b)
-
-last-at : (shapes : List Shape) (own : Shape) {row : ℕ} → length shapes ≡ row → shapeAt (shapes ++ (own ∷ [])) row ≡ own
-last-at shapes own e = rw (← e) (getD-last shapes own noShape)
-
--- what holds of the rows before, and of this one
-module _ {row : ℕ} (P : ℕ → Type 0) (before : (r : ℕ) → r < row → P r) (here : P row) where
-  up-to : (r : ℕ) → r < row + 1 → P r
-  up-to r l = by (ltb r row) refl
-    where
-      by : (b : Bool) → ltb r row ≡ b → P r
-      by true q = before r (ltb-true r row q)
-      by false q = let z : r ≡ row = omega (arith, l, ltb-false r row q) in rw z here
-
-each-by : (shapes all : List Shape) {row : ℕ} → length shapes ≡ row → ((r : ℕ) → r < row → shapeAt shapes r ≡ shapeAt all r) → (r : ℕ) → r < row + 1
-    → shapeAt (shapes ++ (shapeAt all row ∷ [])) r ≡ shapeAt all r
-each-by shapes all {row} n f =
-    up-to (λ (r : ℕ). shapeAt (shapes ++ (shapeAt all row ∷ [])) r ≡ shapeAt all r)
-    (λ r l. getD-before shapes (shapeAt all row) noShape r (omega (arith, n, l)) ∙ f r l)
-    (last-at shapes (shapeAt all row) n)
-
-stored-by : (s u : List ℕ) (own : Shape) (shapes : List Shape) {row : ℕ} → length shapes ≡ row → ((r : ℕ) → r < row → shapeIn s r ≡ cutShape (shapeAt shapes r)) → shapeIn u row ≡ cutShape own
-    → ((r : ℕ) → r < row → shapeIn u r ≡ shapeIn s r) → (r : ℕ) → r < row + 1 → shapeIn u r ≡ cutShape (shapeAt (shapes ++ (own ∷ [])) r)
-stored-by s u own shapes {row} n f g h =
-    up-to (λ (r : ℕ). shapeIn u r ≡ cutShape (shapeAt (shapes ++ (own ∷ [])) r))
-    (λ r l. h r l ∙ f r l ∙ ap cutShape (sym (getD-before shapes own noShape r (omega (arith, n, l)))))
-    (g ∙ ap cutShape (sym (last-at shapes own n)))
+pub filling-start : (text t s : List ℕ) (e : Extent) → Ready text t e → shapesSize ≤ length s → Filling text t s s e 0
+unfolding shapeCells
+filling-start text t s e ready h = filling-by text t s e ready h (omega arith) refl
 
 module _ (text t s₀ : List ℕ) (e : Extent) {s : List ℕ} {row : ℕ} (f : Filling text t s₀ s e row) where
-  pub filling-end : e .rows ≤ row → ShapesIn s (e .rows) (allShapes text t e)
+  pub filling-end : e .rows ≤ row → s ≡ shapeCells (allShapes text t e) ++ drop (e .rows * shapeWidth) s₀
   filling-end h =
       let z : row ≡ e .rows = omega (arith, h, f .low) in
-      record {
-        count = shapes-length (e .mode) [] (known text t e) ∙ (let k = f .ready .holds .count in omega (arith, k));
-        each = λ r l.
-            let k : r < row = omega (arith, z, l) in
-            f .before .stored .each r k ∙ ap cutShape (f .before .each r k);
-      }
+      let w : take (e .rows) (allShapes text t e) ≡ allShapes text t e = take-all (e .rows) (allShapes text t e) (omega (arith, all-length text t e (f .ready))) in
+      f .same ∙ ap (λ (n : ℕ). shapeCells (take n (allShapes text t e)) ++ drop (n * shapeWidth) s₀) z
+      ∙ ap (λ (l : List Shape). shapeCells l ++ drop (e .rows * shapeWidth) s₀) w
 
   module _ (h : row < e .rows) where
     pub filling-low : row < 256
@@ -422,27 +418,25 @@ module _ (text t s₀ : List ℕ) (e : Extent) {s : List ℕ} {row : ℕ} (f : F
     pub filling-falls : e .rows - (row + 1) < e .rows - row
     filling-falls = omega (arith, h)
 
-    pub filling-next : (shape : Shape) {u : List ℕ} → RowShape text t e row shape → u ≡ set (set s (row * 2) (shape .size)) (row * 2 + 1) (shape .access) → Filling text t s₀ u e (row + 1)
+    pub filling-next : (shape : Shape) {u : List ℕ} → RowShape text t e row shape → u ≡ set (set s (row * shapeWidth) (shape .size)) (row * shapeWidth + 1) (shape .access)
+        → Filling text t s₀ u e (row + 1)
     filling-next shape {u} o g =
-        let own : Shape = shapeAt (allShapes text t e) row in
-        let b : ShapesBefore text t s e row = f .before in
-        let n : length (b .shapes) ≡ row = b .stored .count in
-        let k : row * 2 + 1 < length s = omega (arith, filling-low, f .long) in
-        let same : length u ≡ length s =
-        (rw g (length-set (set s (row * 2) (shape .size)) (row * 2 + 1) (shape .access))) ∙ length-set s (row * 2) (shape .size) in
-        record {
-          ready = f .ready;
-          before =
-              record {
-                shapes = b .shapes ++ (own ∷ []);
-                stored =
-                    record {
-                      count = length-more (b .shapes) own ∙ omega (arith, n);
-                      each = stored-by s u own (b .shapes) n (b .stored .each) ((rw g (filled-here s row shape k)) ∙ o .same) (λ r q. rw g (filled-before s row shape k r q));
-                    };
-                each = each-by (b .shapes) (allShapes text t e) n (b .each);
-              };
-          kept = same ∙ f .kept;
-          long = rw same (f .long);
-          low = omega (arith, h);
-        }
+        let all : List Shape = allShapes text t e in
+        let at : ℕ = row * shapeWidth in
+        let front : List ℕ = shapeCells (take row all) in
+        let rest : List ℕ = drop ((row + 1) * shapeWidth) s₀ in
+        let n : length (take row all) ≡ row = length-take-le row all (omega (arith, h, all-length text t e (f .ready))) in
+        let m : length front ≡ at = cells-length (take row all) ∙ omega (arith, n) in
+        let k : at + 1 < length s₀ = omega (arith, filling-low, f .long) in
+        let z : suc (suc at) ≡ (row + 1) * shapeWidth = omega arith in
+        let behind : drop at s₀ ≡ getD s₀ at 0 ∷ getD s₀ (suc at) 0 ∷ rest =
+        drop-cons s₀ at 0 (omega (arith, k))
+        ∙ ap (λ (l : List ℕ). getD s₀ at 0 ∷ l) (drop-cons s₀ (suc at) 0 (omega (arith, k)) ∙ ap (λ (j : ℕ). getD s₀ (suc at) 0 ∷ drop j s₀) z) in
+        let more : take (row + 1) all ≡ take row all ++ (shapeAt all row ∷ []) =
+        ap (λ (j : ℕ). take j all) (add-one row) ∙ take-suc all row noShape (omega (arith, h, all-length text t e (f .ready))) in
+        filling-by text t s₀ e (f .ready) (f .long) (omega (arith, h))
+        (g ∙ ap (λ (l : List ℕ). set (set l at (shape .size)) (at + 1) (shape .access)) (f .same ∙ ap (λ (l : List ℕ). front ++ l) behind)
+        ∙ cells-put front (getD s₀ at 0) (getD s₀ (suc at) 0) (shape .size) (shape .access) at rest m
+        ∙ ap (λ (x : Shape). front ++ (x .size ∷ x .access ∷ rest)) (o .same)
+        ∙ sym (cells-more (take row all) (shapeAt all row) rest)
+        ∙ ap (λ (l : List Shape). shapeCells l ++ rest) (sym more))

@@ -153,7 +153,7 @@ module _ (m : ℕ) (table : List Definition) (p : (r : ℕ) → r < length table
       let q : Positive s = p (c .type) (x .before) (held-addressed g (kindOf (definitionOf table (c .type) .component)) (x .held)) in
       let end : Offset = laid m a s (c .instance) bottom .end in
       record {
-        size = omega (arith, q .size, laid-reaches m a s (c .instance) bottom, larger-reaches (end .0) (highestEnd (laidFrom m a shapes end cs)));
+        size = omega (arith, q .size, laid-reaches m a s (c .instance) bottom, larger-reaches (end .0) (highestEnd (laidFrom m a shapes end cs) .0));
         access = omega (arith, q .access, larger-reaches (s .access) (largestAccess shapes cs));
       }
 

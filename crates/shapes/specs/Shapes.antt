@@ -1,6 +1,6 @@
 -- The shapes of a text's definitions in cells: two a row, the size and the access width in bytes, cut at the cap.
 use mathlib.Core.Path.{_≡_}
-use mathlib.Core.List.{List, []}
+use mathlib.Core.List.{List, [], _∷_}
 use Prim.Native.Nat.{ℕ, _+_, _*_, _<_}
 use lib.ListN.{length}
 use Rattle.properties.specs.declared.Given.{Given}
@@ -12,8 +12,22 @@ use Rattle.layout.specs.declared.Shape.{Shape}
 use Rattle.shapes.specs.declared.Extent.{Extent}
 use Rattle.shapes.specs.Ready.{known}
 
+-- the cells of a shape
+abbrev pub shapeWidth : ℕ
+shapeWidth = 2
+
+-- two cells for each of the 256 definitions that a text may have
+abbrev pub shapesSize : ℕ
+shapesSize = 512
+
+-- the shape in a row of the cells
 unfoldable pub shapeIn : List ℕ → ℕ → Shape
-shapeIn s r = record { size = cellOf s (r * 2); access = cellOf s (r * 2 + 1) }
+shapeIn s r = record { size = cellOf s (r * shapeWidth); access = cellOf s (r * shapeWidth + 1) }
+
+-- the cells of these shapes
+unfoldable pub shapeCells : List Shape → List ℕ
+shapeCells [] = []
+shapeCells (s ∷ shapes) = cutShape s .size ∷ cutShape s .access ∷ shapeCells shapes
 
 -- the first `rows` rows of the cells have the shapes of the definitions
 pub record ShapesIn (s : List ℕ) (rows : ℕ) (shapes : List Shape) : Type 0 where

@@ -6,17 +6,22 @@ use layout::Shape;
 use parts::InstanceReading;
 use properties::Given;
 ghost use mathlib.Core.Path.{_≡_};
+ghost use mathlib.Core.List.{_++_};
 ghost use Prim.Native.Nat.{_+_, _*_, _/_, _<_, _≤_};
-ghost use lib.ListN.{length, set};
+ghost use lib.ListN.{length, drop, set};
 ghost use Rattle.table.specs.Cells.{filedAt, firstIn, countIn};
 ghost use Rattle.offsets.specs.Offsets.{larger};
 ghost use Rattle.shapes.specs.Ready.{Ready};
-ghost use Rattle.shapes.specs.Shapes.{shapeIn, ShapesIn, allShapes, GroupRow, ShapesBefore, RowShape};
+ghost use Rattle.shapes.specs.Shapes.{shapesSize, shapeWidth, shapeIn, shapeCells, allShapes, GroupRow, ShapesBefore, RowShape};
 
-// How many definitions and instances of closed definitions the cells hold, and the map's mode.
+// The cells of a definition's shape, and of as many as a text may have.
+const SHAPE_ROW: usize = 2;
+
+pub const SHAPES_SIZE: usize = 512;
+
+// How many definitions the cells hold, and the map's mode.
 pub struct Extent {
     pub rows: usize,
-    pub filed: usize,
     pub mode: u64,
 }
 
@@ -46,17 +51,17 @@ pub fn shape_at(shapes: &[u64], row: usize) -> Shape
     requires { ⌜ row < 256 ⌝ }
     ensures { λ r. ⌜ r ≡ shapeIn (now (shapes .entry)) row ⌝ }
 {
-    let size = table::cell(shapes, row * 2);
-    let access = table::cell(shapes, row * 2 + 1);
+    let size = table::cell(shapes, row * SHAPE_ROW);
+    let access = table::cell(shapes, row * SHAPE_ROW + 1);
     Shape { size, access }
 }
 
 fn put_shape(shapes: &mut [u64], row: usize, shape: Shape)
     requires { ⌜ row < 256 ⌝ }
-    ensures { λ _. ⌜ now (shapes .exit) ≡ set (set (now (shapes .entry)) (row * 2) (shape .size)) (row * 2 + 1) (shape .access) ⌝ }
+    ensures { λ _. ⌜ now (shapes .exit) ≡ set (set (now (shapes .entry)) (row * shapeWidth) (shape .size)) (row * shapeWidth + 1) (shape .access) ⌝ }
 {
-    table::put(shapes, row * 2, shape.size);
-    table::put(shapes, row * 2 + 1, shape.access);
+    table::put(shapes, row * SHAPE_ROW, shape.size);
+    table::put(shapes, row * SHAPE_ROW + 1, shape.access);
 }
 
 // The later of two offsets.
@@ -134,10 +139,10 @@ fn shape_of(text: &[u8], cells: &[u64], shapes: &[u64], extent: Extent, row: usi
     }
 }
 
-// The shapes of all definitions.
+// Writes the shapes of all definitions, one a row from the first cell on; the cells behind the last row stay.
 pub fn fill_shapes(text: &[u8], cells: &[u64], shapes: &mut [u64], extent: Extent)
-    requires { ⌜ Ready (now text) (now cells) extent × (512 ≤ length (now shapes)) ⌝ }
-    ensures { λ _. ⌜ ShapesIn (now (shapes .exit)) (extent .rows) (allShapes (now (text .entry)) (now (cells .entry)) extent) ⌝ }
+    requires { ⌜ Ready (now text) (now cells) extent × (shapesSize ≤ length (now shapes)) ⌝ }
+    ensures { λ _. ⌜ now (shapes .exit) ≡ shapeCells (allShapes (now (text .entry)) (now (cells .entry)) extent) ++ drop (extent .rows * shapeWidth) (now (shapes .entry)) ⌝ }
 {
     let mut row = 0;
     while row < extent.rows {

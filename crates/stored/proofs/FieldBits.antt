@@ -1,7 +1,7 @@
 -- What an access does to the bits of a field and what a read answers of them: one law for each way that the code goes, and for a loop
 -- the number of the bits that it has passed.
 use mathlib.Core.Bool.{Bool, true, false, _&&_, not}
-use mathlib.Core.Path.{_≡_, ap₂, _∙_}
+use mathlib.Core.Path.{_≡_, sym, ap, ap₂, _∙_}
 use Prim.Native.Nat.{ℕ, _+_, _-_, _*_, _^_, _<_, _≤_}
 use native.Mathlib.Omega.{arith}
 use lib.Dec.{eqb}
@@ -20,10 +20,9 @@ use Rattle.actions.specs.declared.Action.the-variants.{Kept}
 use Rattle.actions.specs.Actions.{apply, writeAction}
 use Rattle.model.specs.declared.View.{View}
 use Rattle.model.specs.declared.Access.{Access}
-use Rattle.model.specs.Model.{addressOf, widthOf, size, reaches, partLow, bitAction, acted, numberAfter, fieldGives}
+use Rattle.model.specs.Model.{addressOf, widthOf, size, reaches, bitAction, acted, numberAfter, wordPlace, fieldGives}
 use Rattle.model.specs.Repeats.{invertedBy}
 use Rattle.stored.proofs.Tests.{failed, passed}
-use Rattle.stored.proofs.Reach.{low-at}
 
 -- a write, of which a call answers the word's bit
 module _ (p b : Bool) {r one : Bool} (e : r ≡ p) (y : not r ≡ false) (f : one ≡ b) where
@@ -72,16 +71,19 @@ module _ (a : Offset) (w : ℕ) (c : View) (b : ℕ → Bool) (j : ℕ) {r : Boo
     pub gives-unreached : not s ≡ true → false ≡ fieldGives a w c b j
     gives-unreached z = rw (passed e y, failed f z)
 
-    module _ {l : BitPlace} (z : not s ≡ false) (g : l ≡ partLow a c) where
-      pub gives-below : l .0 + j < c .field .low .0 → false ≡ fieldGives a w c b j
-      gives-below h = rw (passed e y, passed f z, ← low-at a c g, lt-leb _ _ h)
+    module _ {p : BitPlace} (z : not s ≡ false) (g : p ≡ wordPlace a c j) where
+      at-place : wordPlace a c j .0 ≡ p .0
+      at-place = sym (ap (λ (q : BitPlace). q .0) g)
 
-      module _ (h : c .field .low .0 ≤ l .0 + j) where
-        pub gives-above : c .field .high .0 < l .0 + j → false ≡ fieldGives a w c b j
-        gives-above k = rw (passed e y, passed f z, ← low-at a c g, le-leb _ _ h, lt-leb _ _ k)
+      pub gives-below : p .0 < c .field .low .0 → false ≡ fieldGives a w c b j
+      gives-below h = rw (passed e y, passed f z, at-place, lt-leb _ _ h)
 
-        pub gives-bit : {t : Bool} → l .0 + j ≤ c .field .high .0 → t ≡ b (l .0 + j - c .field .low .0) → t ≡ fieldGives a w c b j
-        gives-bit k m = rw (passed e y, passed f z, ← low-at a c g, le-leb _ _ h, le-leb _ _ k) m
+      module _ (h : c .field .low .0 ≤ p .0) where
+        pub gives-above : c .field .high .0 < p .0 → false ≡ fieldGives a w c b j
+        gives-above k = rw (passed e y, passed f z, at-place, le-leb _ _ h, lt-leb _ _ k)
+
+        pub gives-bit : {t : Bool} → p .0 ≤ c .field .high .0 → t ≡ b (p .0 - c .field .low .0) → t ≡ fieldGives a w c b j
+        gives-bit k m = rw (passed e y, passed f z, at-place, le-leb _ _ h, le-leb _ _ k) m
 
 -- the number of all bits of the word
 pub number-all : (f : ℕ → Bool) (i n : ℕ) {l : ℕ} → l ≡ number i f → i ≤ n → n ≤ i → l ≡ number n f

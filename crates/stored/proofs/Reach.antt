@@ -11,7 +11,7 @@ use Rattle.components.specs.declared.Offset.{Offset}
 use Rattle.components.specs.declared.Register.{Register}
 use Rattle.bits.specs.Bits.{bit}
 use Rattle.model.specs.declared.View.{View}
-use Rattle.model.specs.Model.{reachesRegister, reaches, partLow, placeOf, reachesBit, wordBit}
+use Rattle.model.specs.Model.{reachesRegister, reaches, partLow, placeOf, reachesBit, wordBit, wordPlace}
 use Rattle.stored.proofs.Tests.{failed, passed}
 
 -- the tests of a register
@@ -61,8 +61,11 @@ module _ (a : Offset) (w : ℕ) (c : View) (e : reaches a w c ≡ true) where
 
 -- the places as calls answer them
 module _ (a : Offset) (c : View) {l : BitPlace} (f : l ≡ partLow a c) where
-  pub low-at : l .0 ≡ partLow a c .0
+  low-at : l .0 ≡ partLow a c .0
   low-at = ap (λ (b : BitPlace). b .0) f
+
+  pub word-placed : (j : ℕ) → _≡_ {A = BitPlace} (record { 0 = l .0 + j }) (wordPlace a c j)
+  word-placed j = rw low-at
 
 module _ (c : View) (i : ℕ) {p : BitPlace} (g : p ≡ placeOf c i) where
   place-at : p .0 ≡ placeOf c i .0

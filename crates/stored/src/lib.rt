@@ -14,7 +14,7 @@ ghost use Prim.Native.Nat.{_<_, _≤_, _^_};
 ghost use lib.Dec.{ltb};
 ghost use Rattle.settings.specs.Settings.{isWidth};
 ghost use Rattle.bits.specs.Bits.{bit, number};
-ghost use Rattle.model.specs.Model.{addressOf, widthOf, wellFormed, size, reachesRegister, reaches, partLow, placeOf, reachesBit, writesBit, bitAction, wordBit, acted, numberAfter, fieldGives};
+ghost use Rattle.model.specs.Model.{addressOf, widthOf, wellFormed, size, reachesRegister, reaches, partLow, placeOf, reachesBit, writesBit, bitAction, wordBit, acted, numberAfter, wordPlace, fieldGives};
 ghost use Rattle.model.specs.Repeats.{readsBit, invertedBy, changedByReading, repeatsBit, allBelow};
 ghost use Rattle.stored.specs.Ranges.{Usable};
 
@@ -112,7 +112,7 @@ fn place_of(field: View, i: u64) -> BitPlace
     BitPlace(low.0 + i)
 }
 
-pub fn reaches_bit(address: Offset, width: u64, field: View, i: u64) -> bool
+fn reaches_bit(address: Offset, width: u64, field: View, i: u64) -> bool
     requires { ⌜ Usable width field × (i < size field) ⌝ }
     ensures { λ r. ⌜ r ≡ reachesBit address width field i ⌝ }
 {
@@ -228,6 +228,15 @@ pub fn number_after(access: Access, field: View, stored: u64) -> u64
     acted_number(access, field, stored)
 }
 
+// The place in the field's register of bit j of the word.
+fn word_place(address: Offset, width: u64, field: View, j: u64) -> BitPlace
+    requires { ⌜ (reaches address width field ≡ true) × (field .register .width ≤ 64) × (j < 64) ⌝ }
+    ensures { λ r. ⌜ r ≡ wordPlace address field j ⌝ }
+{
+    let low = part_low(address, width, field);
+    BitPlace(low.0 + j)
+}
+
 // Bit j of the word that a read answers, as far as this field gives it.
 fn gives_bit(address: Offset, width: u64, field: View, stored: u64, j: u64) -> bool
     requires { ⌜ Usable width field × (j < width) ⌝ }
@@ -241,17 +250,16 @@ fn gives_bit(address: Offset, width: u64, field: View, stored: u64, j: u64) -> b
     if !reaches_field(address, width, field) {
         return false;
     }
-    let low = part_low(address, width, field);
-    let place = low.0 + j;
+    let place = word_place(address, width, field, j);
     let lowest = at.low;
     let highest = at.high;
-    if place < lowest.0 {
+    if place.0 < lowest.0 {
         return false;
     }
-    if highest.0 < place {
+    if highest.0 < place.0 {
         return false;
     }
-    bits::bit_at(stored, place - lowest.0)
+    bits::bit_at(stored, place.0 - lowest.0)
 }
 
 // The word that a read answers, as far as this field gives it.

@@ -4,4 +4,5 @@ pub mod Ends
 pub mod Turns
 pub mod Derive
 pub mod Deeper
+pub mod Numbers
 pub mod Worked

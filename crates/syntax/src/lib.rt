@@ -9,7 +9,8 @@ use vocabulary::Mark;
 ghost use mathlib.Core.Path.{_≡_};
 ghost use Rattle.syntax.specs.Grammar.{instancesAt, instanceStatementAt, statementAt, tailAt, bodyAt, definitionAt, fileAt};
 ghost use Rattle.parts.specs.Parts.{propertyAt};
-ghost use Rattle.syntax.specs.Answers.{answerOf, verdictOf, sentenceVerdict};
+ghost use Rattle.lex.specs.Words.{verdictNumbers};
+ghost use Rattle.syntax.specs.Answers.{answerOf, verdictOf, sentenceVerdict, answerNumbers, readingNumbers, sentenceNumbers};
 
 const BODY_LIMIT: usize = 8;
 
@@ -20,7 +21,7 @@ pub enum Answer {
 }
 
 // Instances parted by commas, up to the semicolon.
-pub fn read_instances(text: &[u8], start: usize) -> Answer
+fn read_instances(text: &[u8], start: usize) -> Answer
     ensures { λ r. ⌜ r ≡ answerOf (instancesAt (now (text .entry)) start) ⌝ }
 {
     let mut at = start;
@@ -60,7 +61,7 @@ fn read_property_statement(text: &[u8], at: usize) -> Answer
 }
 
 // A statement that opens no body.
-pub fn read_statement(text: &[u8], at: usize) -> Answer
+fn read_statement(text: &[u8], at: usize) -> Answer
     ensures { λ r. ⌜ r ≡ answerOf (statementAt (now (text .entry)) at) ⌝ }
 {
     if parts::starts_instances(text, at) {
@@ -70,7 +71,7 @@ pub fn read_statement(text: &[u8], at: usize) -> Answer
 }
 
 // What follows a definition's body: instances, or nothing where it has a name; then a semicolon.
-pub fn read_tail(text: &[u8], at: usize, named: bool) -> Answer
+fn read_tail(text: &[u8], at: usize, named: bool) -> Answer
     ensures { λ r. ⌜ r ≡ answerOf (tailAt named (now (text .entry)) at) ⌝ }
 {
     if !named {
@@ -85,7 +86,7 @@ pub fn read_tail(text: &[u8], at: usize, named: bool) -> Answer
 }
 
 // The elements of a body up to its closing brace, where so many more bodies may be opened inside.
-pub fn read_body(text: &[u8], start: usize, bodies: usize) -> Answer
+fn read_body(text: &[u8], start: usize, bodies: usize) -> Answer
     ensures { λ r. ⌜ r ≡ answerOf (bodyAt bodies (now (text .entry)) start) ⌝ }
 {
     let mut at = start;
@@ -119,7 +120,8 @@ pub fn read_body(text: &[u8], start: usize, bodies: usize) -> Answer
 
 // A definition, where so many bodies may still be opened.
 pub fn read_definition(text: &[u8], at: usize, bodies: usize) -> Answer
-    ensures { λ r. ⌜ r ≡ answerOf (definitionAt bodies (now (text .entry)) at) ⌝ }
+    ensures answer { λ r. ⌜ r ≡ answerOf (definitionAt bodies (now (text .entry)) at) ⌝ }
+    ensures numbers { λ r. ⌜ answerNumbers r ≡ readingNumbers (definitionAt bodies (now (text .entry)) at) ⌝ }
 {
     match parts::read_header(text, at) {
         HeaderReading::Stop(place) => Answer::Refused(3, place),
@@ -140,7 +142,8 @@ pub fn read_definition(text: &[u8], at: usize, bodies: usize) -> Answer
 
 // The definitions of a file.
 pub fn read_file(text: &[u8]) -> Answer
-    ensures { λ r. ⌜ r ≡ answerOf (fileAt (now (text .entry))) ⌝ }
+    ensures answer { λ r. ⌜ r ≡ answerOf (fileAt (now (text .entry))) ⌝ }
+    ensures numbers { λ r. ⌜ answerNumbers r ≡ readingNumbers (fileAt (now (text .entry))) ⌝ }
 {
     let mut at = 0;
     loop {
@@ -171,7 +174,8 @@ fn to_verdict(answer: Answer) -> Verdict
 
 // The first refusal of a text by 3, and by 18 for bodies, or none.
 pub fn first_refusal(text: &[u8]) -> Verdict
-    ensures { λ r. ⌜ r ≡ sentenceVerdict (now (text .entry)) ⌝ }
+    ensures answer { λ r. ⌜ r ≡ sentenceVerdict (now (text .entry)) ⌝ }
+    ensures numbers { λ r. ⌜ verdictNumbers r ≡ sentenceNumbers (now (text .entry)) ⌝ }
 {
     to_verdict(read_file(text))
 }

@@ -1,5 +1,5 @@
 -- Laws of the cells, in the form that the proofs use.
-use mathlib.Core.Bool.{Bool, true, false}
+use mathlib.Core.Bool.{Bool, true, false, _&&_}
 use mathlib.Core.Path.{_≡_, refl, sym, _∙_}
 use mathlib.Core.List.{List, [], _∷_}
 use Prim.Native.Nat.{ℕ, zero, suc, _+_, _-_, _*_, _<_, _≤_}
@@ -8,8 +8,8 @@ use native.Mathlib.Omega.{arith}
 use lib.ListN.{length, set, getD, length-set}
 use lib.Seq.{getD-set-same, getD-set-other}
 use lib.Dec.{eqb, ltb}
-use borrow.Author.Tests.{eq-eqb, ne-eqb, lt-ltb, le-ltb, ltb-true, ltb-false}
-use Rattle.parts.specs.Reading.{ok}
+use borrow.Author.Tests.{eq-eqb, ne-eqb, eqb-false, lt-ltb, le-ltb, ltb-true, ltb-false}
+use Rattle.chars.specs.Choice.{if_then_else_}
 use Rattle.parts.specs.Parts.{instanceAt}
 use Rattle.parts.specs.Answers.{instanceRead}
 use Rattle.parts.specs.declared.Name.{Name}
@@ -26,7 +26,8 @@ use Rattle.table.specs.declared.Values.{Values}
 use Rattle.table.specs.declared.Row.{Row}
 use Rattle.table.specs.Cells.{cellOf, givenFrom, flagOf, numberOf, componentFrom, valuesOf, nameIn, belowIn, valueCells, otherCells, written, entryOf, placeIn, rowIn, printIn, moved}
 use Rattle.table.specs.Definitions.{Child, Entry, lookup, namesOf}
-use Rattle.table.specs.Relation.{Block, block-end, block-on, Chain, chain-stop, chain-on, Finds, NamedAt, EntryNamed, Among, agreeing, Agrees}
+use Rattle.table.specs.Decoded.{typesFrom, typesIn, isNamedAs, isEntryNamed, someNamed}
+use Rattle.table.specs.Relation.{IsEntry, Block, block-end, block-on, Chain, chain-stop, chain-on, agreeing, Agrees}
 
 -- an instance in a cell
 pub entry-place : (p r q : ℕ) → p < 131072 → r < 256 → placeIn (entryOf p r q) ≡ p
@@ -82,6 +83,14 @@ module _ (t : List ℕ) (row : ℕ) {b : ℕ} (e : b ≡ cellOf t (row * 16 + 11
   pub below-cell : b ≤ row → b ≡ belowIn t row
   unfolding belowIn
   below-cell h = rw (← e, le-ltb row b h)
+
+below-low : (t : List ℕ) (row : ℕ) → belowIn t row ≤ row
+unfolding belowIn
+below-low t row = by (ltb row (cellOf t (row * 16 + 11))) refl
+  where
+    by : (b : Bool) → ltb row (cellOf t (row * 16 + 11)) ≡ b → (if b then row else cellOf t (row * 16 + 11)) ≤ row
+    by true q = omega arith
+    by false q = ltb-false row (cellOf t (row * 16 + 11)) q
 
 -- cells in a row, written
 pub written-length : (t : List ℕ) (i : ℕ) (xs : List ℕ) → length (written t i xs) ≡ length t
@@ -178,115 +187,136 @@ module _ (from to count : ℕ) where
         let b : to + (k + 1) ≡ to + k + 1 = omega arith in
         rw (f, e, a, b) (rw n at at)
 
--- the types that are left to look at, and what the name means among them
-pub record Seen (text t : List ℕ) (stop : ℕ) (name : Name) (at : ℕ) (answer : Given) : Type 0 where
-  pub types : List Entry
-  pub chain : Chain t stop at types
-  pub same : lookup text name types ≡ answer
+-- the types that a chain has are those that the cells decode to
+pub chain-types : (fuel : ℕ) {t : List ℕ} {stop head : ℕ} {es : List Entry} → head ≤ fuel → Chain t stop head es → typesFrom fuel t stop head ≡ es
+unfolding typesFrom
+chain-types zero l chain-stop = refl
+chain-types (suc fuel) {stop = stop} l chain-stop = rw (le-ltb stop stop (omega arith))
+chain-types zero l (chain-on h n b c) = absurd (omega arith)
+chain-types (suc fuel) {t = t} {stop = stop} l (chain-on {e = e} h n b c) =
+    let m : suc (e .row) - 1 ≡ e .row = omega arith in
+    rw (lt-ltb stop (suc (e .row)) (omega arith), m, chain-types fuel {t = t} (omega (arith, l, below-low t (e .row))) c, n)
 
+-- a name means a type of a row below
+pub type-low : (fuel : ℕ) (text t : List ℕ) (stop head : ℕ) (name : Name) {d : ℕ} → lookup text name (typesFrom fuel t stop head) ≡ Number d → d < head
+unfolding typesFrom lookup
+type-low zero text t stop head name e = absurd (let z : _≡_ {A = ℕ} 0 1 = cc in omega arith)
+type-low (suc fuel) text t stop head name {d} e = by (ltb stop head) refl (λ x. type-low fuel text t stop (belowIn t (head - 1)) name x) e
+  where
+    named : (c : Bool) {x : Given} → stop < head → (x ≡ Number d → d < belowIn t (head - 1)) → (if c then Number (head - 1) else x) ≡ Number d → d < head
+    named true h l e = let z : head - 1 ≡ d = cc in omega arith
+    named false h l e = omega (arith, l e, below-low t (head - 1))
+
+    by : (b : Bool) → ltb stop head ≡ b → (lookup text name (typesFrom fuel t stop (belowIn t (head - 1))) ≡ Number d → d < belowIn t (head - 1))
+        → lookup text name (if b then record { name = nameIn t (head - 1); row = head - 1 } ∷ typesFrom fuel t stop (belowIn t (head - 1)) else []) ≡ Number d → d < head
+    by true q l e = named (sameName text name (nameIn t (head - 1))) (ltb-true stop head q) l e
+    by false q l e = absurd (let z : _≡_ {A = ℕ} 0 1 = cc in omega arith)
+
+-- what a name means among the types that are left to look at is what it means among all
 pub record Seeking (text t : List ℕ) (head stop : ℕ) (name : Name) (at : ℕ) : Type 0 where
   pub low : at ≤ 256
-  pub below : at ≤ head
-  pub each : (es : List Entry) → Chain t stop head es → Seen text t stop name at (lookup text name es)
+  pub fuel : ℕ
+  pub enough : at ≤ fuel
+  pub same : lookup text name (typesFrom fuel t stop at) ≡ lookup text name (typesIn t stop head)
 
 module _ (text t : List ℕ) (stop : ℕ) (name : Name) where
-  chain-end : {at : ℕ} {es : List Entry} {x : Given} → at ≤ stop → Chain t stop at es → lookup text name es ≡ x → Nothing ≡ x
-  unfolding lookup
-  chain-end h chain-stop e = e
-  chain-end h (chain-on l n b c) e = absurd (omega arith)
+  types-end : (fuel : ℕ) {at : ℕ} {x : Given} → at ≤ stop → lookup text name (typesFrom fuel t stop at) ≡ x → Nothing ≡ x
+  unfolding lookup typesFrom
+  types-end zero h e = e
+  types-end (suc fuel) {at} h e = rw (le-ltb stop at h) at e
 
-  chain-here : {at row : ℕ} {es : List Entry} {x : Given} → stop < at → row ≡ at - 1 → sameName text name (nameIn t row) ≡ true → Chain t stop at es → lookup text name es ≡ x → Number row ≡ x
-  unfolding lookup
-  chain-here h r s chain-stop e = absurd (omega arith)
-  chain-here {row = row} h r s (chain-on {e = f} l n b c) e =
-      let m : f .row ≡ row = omega arith in
-      let q : sameName text name (f .name) ≡ true = rw (← n, m) s in
-      rw (← m) (rw q at e)
+  types-here : (fuel : ℕ) {at : ℕ} {x : Given} → at ≤ fuel → stop < at → sameName text name (nameIn t (at - 1)) ≡ true → lookup text name (typesFrom fuel t stop at) ≡ x → Number (at - 1) ≡ x
+  unfolding lookup typesFrom
+  types-here zero l h s e = absurd (omega arith)
+  types-here (suc fuel) {at} l h s e = rw (lt-ltb stop at h, s) at e
 
-  chain-next : {at row : ℕ} {es : List Entry} {x : Given} → stop < at → row ≡ at - 1 → sameName text name (nameIn t row) ≡ false → Chain t stop at es → lookup text name es ≡ x → Seen text t stop name (belowIn t row) x
-  unfolding lookup
-  chain-next h r s chain-stop e = absurd (omega arith)
-  chain-next {row = row} h r s (chain-on {e = f} {es = es} l n b c) e =
-      let m : f .row ≡ row = omega arith in
-      let q : sameName text name (f .name) ≡ false = rw (← n, m) s in
-      record { types = es; chain = rw (← m) c; same = rw q at e }
+  types-next : (fuel : ℕ) {at : ℕ} {x : Given} → at ≤ fuel → stop < at → sameName text name (nameIn t (at - 1)) ≡ false → lookup text name (typesFrom fuel t stop at) ≡ x
+      → lookup text name (typesFrom (fuel - 1) t stop (belowIn t (at - 1))) ≡ x
+  unfolding lookup typesFrom
+  types-next zero l h s e = absurd (omega arith)
+  types-next (suc fuel) {at} l h s e = let n : suc fuel - 1 ≡ fuel = omega arith in rw n (rw (lt-ltb stop at h, s) at e)
 
   module _ (head : ℕ) where
     pub seek-start : head ≤ 256 → Seeking text t head stop name head
-    seek-start h = record { low = h; below = omega arith; each = λ es c. record { types = es; chain = c; same = refl } }
+    seek-start h = record { low = h; fuel = head; enough = omega arith; same = refl }
 
     module _ {at : ℕ} (s : Seeking text t head stop name at) where
-      pub seek-end : at ≤ stop → Finds text t head stop name Nothing
-      seek-end h = record { low = λ d q. absurd (let z : _≡_ {A = ℕ} 0 1 = cc in omega arith); each = λ es c. let r = s .each es c in chain-end h (r .chain) (r .same) }
+      pub seek-end : at ≤ stop → Nothing ≡ lookup text name (typesIn t stop head)
+      seek-end h = types-end (s .fuel) h (s .same)
 
       module _ {row : ℕ} {other : Name} {b : Bool} (h : stop < at) (e : row ≡ at - 1) (f : other ≡ nameIn t row) (g : b ≡ sameName text name other) where
-        pub seek-here : b ≡ true → Finds text t head stop name (Number row)
-        seek-here y = record { low = λ d q. let z : row ≡ d = cc in let l = s .below in omega arith; each = λ es c. let r = s .each es c in chain-here h e (rw (← f) (sym g ∙ y)) (r .chain) (r .same) }
+        same-here : sameName text name (nameIn t (at - 1)) ≡ b
+        same-here = rw (← e, ← f) (sym g)
+
+        pub seek-here : b ≡ true → Number row ≡ lookup text name (typesIn t stop head)
+        seek-here y = rw e (types-here (s .fuel) (s .enough) h (same-here ∙ y) (s .same))
 
         pub seek-on : {below : ℕ} → b ≡ false → (below ≡ belowIn t row) × (below ≤ row) → Seeking text t head stop name below
         seek-on y z =
             let l = s .low in
-            let m = s .below in
-            record { low = omega (arith, z .1); below = omega (arith, z .1); each = λ es c. let r = s .each es c in rw (z .0) (chain-next h e (rw (← f) (sym g ∙ y)) (r .chain) (r .same)) }
+            let m = s .enough in
+            record { low = omega (arith, z .1); fuel = s .fuel - 1; enough = omega (arith, z .1); same = rw (z .0, e) (types-next (s .fuel) m h (same-here ∙ y) (s .same)) }
 
 -- the instance at a place
 module _ (text : List ℕ) (place : ℕ) (name : Name) {x : InstanceReading} (e : instanceRead x ≡ instanceAt text place) where
-  pub named-done : {i : Instance} {n : ℕ} {r : Bool} → x ≡ instanceReading.Done i n → r ≡ sameName text name (i .name) → NamedAt text place name r
-  named-done {i} {n} f g = record { each = λ j next h. let w : ok i n ≡ ok j next = (rw f at e) ∙ h in let q : i ≡ j = cc in rw (g, q) }
+  pub named-done : {i : Instance} {n : ℕ} {r : Bool} → x ≡ instanceReading.Done i n → r ≡ sameName text name (i .name) → r ≡ isNamedAs text name (instanceAt text place)
+  named-done f g = rw (← e, f) g
 
-  pub named-stop : {q : ℕ} {r : Bool} → x ≡ instanceReading.Stop q → NamedAt text place name r
-  named-stop f = record { each = λ j next h. absurd (let z : _≡_ {A = ℕ} 0 1 = cc in omega arith) }
+  pub named-stop : {q : ℕ} → x ≡ instanceReading.Stop q → false ≡ isNamedAs text name (instanceAt text place)
+  named-stop f = rw (← e, f)
 
 -- the instance of a cell
 module _ (text : List ℕ) (x : ℕ) (name : Name) where
-  pub print-other : {print p : ℕ} → print ≡ fingerprint text name → p ≡ printIn x → (p ≡ print → ⊥) → EntryNamed text x name false
-  print-other e f g = record { each = λ c h. sym (other-print text name (c .instance .name) (λ q. g (f ∙ h .print ∙ sym q ∙ sym e))) }
+  pub print-other : {print p : ℕ} → print ≡ fingerprint text name → p ≡ printIn x → (p ≡ print → ⊥) → false ≡ isEntryNamed text x name
+  unfolding isEntryNamed
+  print-other e f g = rw (ne-eqb (printIn x) (fingerprint text name) (λ q. g (f ∙ q ∙ sym e)))
 
-  pub print-same : {place : ℕ} {r : Bool} → place ≡ placeIn x → NamedAt text place name r → EntryNamed text x name r
-  print-same e n = record { each = λ c h. n .each (c .instance) (h .next) (rw e (h .reads)) }
+  pub print-same : {print p place : ℕ} {r : Bool} → print ≡ fingerprint text name → p ≡ printIn x → p ≡ print → place ≡ placeIn x → r ≡ isNamedAs text name (instanceAt text place)
+      → r ≡ isEntryNamed text x name
+  unfolding isEntryNamed
+  print-same e f g h n = rw (eq-eqb (printIn x) (fingerprint text name) (sym f ∙ g ∙ e), ← h) n
 
--- the instances that are left to look at, and whether the name is among them
-pub record Left (text t : List ℕ) (to : ℕ) (name : Name) (i : ℕ) (answer : Bool) : Type 0 where
-  pub children : List Child
-  pub block : Block text t i children
-  pub count : i + length children ≡ to
-  pub same : isAmong text name (namesOf children) ≡ answer
+  entry-named : {c : Child} → IsEntry text x c → isEntryNamed text x name ≡ sameName text name (c .instance .name)
+  unfolding isEntryNamed
+  entry-named {c} k = by (eqb (printIn x) (fingerprint text name)) refl
+    where
+      by : (b : Bool) → eqb (printIn x) (fingerprint text name) ≡ b → (b && isNamedAs text name (instanceAt text (placeIn x))) ≡ sameName text name (c .instance .name)
+      by true q = rw (k .reads)
+      by false q = sym (other-print text name (c .instance .name) (λ w. eqb-false (printIn x) (fingerprint text name) q (k .print ∙ sym w)))
 
+-- the names of the instances that stand in cells
+pub block-named : (text t : List ℕ) (name : Name) {i : ℕ} {cs : List Child} → Block text t i cs → someNamed text t i (length cs) name ≡ isAmong text name (namesOf cs)
+unfolding someNamed isAmong
+block-named text t name block-end = refl
+block-named text t name (block-on {i = i} k b) = rw (entry-named text (cellOf t i) name k, block-named text t name b)
+
+-- the name is among the cells that are left to look at exactly when it is among all
 pub record Looking (text t : List ℕ) (from to : ℕ) (name : Name) (i : ℕ) : Type 0 where
-  pub each : (cs : List Child) → Block text t from cs → from + length cs ≡ to → Left text t to name i (isAmong text name (namesOf cs))
+  pub same : someNamed text t i (to - i) name ≡ someNamed text t from (to - from) name
 
-module _ (text t : List ℕ) (to : ℕ) (name : Name) where
-  block-none : {i : ℕ} (cs : List Child) {x : Bool} → to ≤ i → i + length cs ≡ to → isAmong text name (namesOf cs) ≡ x → false ≡ x
-  unfolding isAmong
-  block-none [] h n e = e
-  block-none (c ∷ cs) h n e = absurd (omega arith)
+module _ (text t : List ℕ) (from to : ℕ) (name : Name) where
+  pub look-start : Looking text t from to name from
+  look-start = record { same = refl }
 
-  block-here : {i : ℕ} {cs : List Child} {x : Bool} → i < to → EntryNamed text (cellOf t i) name true → Block text t i cs → i + length cs ≡ to → isAmong text name (namesOf cs) ≡ x → true ≡ x
-  unfolding isAmong
-  block-here h a block-end n e = absurd (omega arith)
-  block-here h a (block-on {c = c} k b) n e = let q : true ≡ sameName text name (c .instance .name) = a .each c k in rw (← q) at e
+  module _ {i : ℕ} (s : Looking text t from to name i) where
+    pub look-end : to ≤ i → false ≡ someNamed text t from (to - from) name
+    unfolding someNamed
+    look-end h = let n : to - i ≡ 0 = omega arith in rw n at (s .same)
 
-  block-next : {i : ℕ} {cs : List Child} {x : Bool} → i < to → EntryNamed text (cellOf t i) name false → Block text t i cs → i + length cs ≡ to → isAmong text name (namesOf cs) ≡ x → Left text t to name (i + 1) x
-  unfolding isAmong
-  block-next h a block-end n e = absurd (omega arith)
-  block-next h a (block-on {c = c} {cs = cs} k b) n e =
-      let q : false ≡ sameName text name (c .instance .name) = a .each c k in
-      record { children = cs; block = rw add-one b; count = omega arith; same = rw (← q) at e }
+    module _ {x : ℕ} {r : Bool} (h : i < to) (e : x ≡ cellOf t i) (a : r ≡ isEntryNamed text x name) where
+      left : to - i ≡ suc (to - (i + 1))
+      left = omega arith
 
-  module _ (from : ℕ) where
-    pub look-start : Looking text t from to name from
-    look-start = record { each = λ cs b n. record { children = cs; block = b; count = n; same = refl } }
+      here : isEntryNamed text (cellOf t i) name ≡ r
+      here = rw (← e) (sym a)
 
-    module _ {i : ℕ} (s : Looking text t from to name i) where
-      pub look-end : to ≤ i → Among text t from to name false
-      look-end h = record { each = λ cs b n. let l = s .each cs b n in block-none (l .children) h (l .count) (l .same) }
+      pub look-here : r ≡ true → true ≡ someNamed text t from (to - from) name
+      unfolding someNamed
+      look-here y = rw (left, here, y) at (s .same)
 
-      module _ {x : ℕ} {r : Bool} (h : i < to) (e : x ≡ cellOf t i) (a : EntryNamed text x name r) where
-        pub look-here : r ≡ true → Among text t from to name true
-        look-here y = record { each = λ cs b n. let l = s .each cs b n in block-here h (rw (← e, ← y) a) (l .block) (l .count) (l .same) }
-
-        pub look-on : r ≡ false → Looking text t from to name (i + 1)
-        look-on y = record { each = λ cs b n. let l = s .each cs b n in block-next h (rw (← e, ← y) a) (l .block) (l .count) (l .same) }
+      pub look-on : r ≡ false → Looking text t from to name (i + 1)
+      unfolding someNamed
+      look-on y = let n : i + 1 ≡ suc i = add-one i in record { same = rw n (rw (left, here, y, n) at (s .same)) }
 
 -- a pass over fingerprints: while the sum is 0 none agreed
 pub record Counting (t : List ℕ) (from print i found : ℕ) : Type 0 where
@@ -335,14 +365,12 @@ agreeing-yes a b e = rw (eq-eqb a b e)
 pub agreeing-no : (a b : ℕ) → (a ≡ b → ⊥) → 0 ≡ agreeing a b
 agreeing-no a b e = rw (ne-eqb a b e)
 
--- where no fingerprint agrees the name stands nowhere
-none-among : (text t : List ℕ) (from to : ℕ) (name : Name) {print i : ℕ} {cs : List Child} → print ≡ fingerprint text name
-    → ((j : ℕ) → from ≤ j → j < to → printIn (cellOf t j) ≡ print → ⊥) → from ≤ i → i + length cs ≡ to → Block text t i cs → false ≡ isAmong text name (namesOf cs)
-unfolding isAmong
-none-among text t from to name e none l h block-end = refl
-none-among text t from to name {i = i} e none l h (block-on {c = c} {cs = cs} x b) =
-    let d : fingerprint text name ≡ fingerprint text (c .instance .name) → ⊥ = λ q. none i l (omega (arith, h)) (x .print ∙ sym q ∙ sym e) in
-    rw (other-print text name (c .instance .name) d) (none-among text t from to name e none (omega (arith, l)) (omega (arith, h)) b)
+-- where no fingerprint agrees no cell has the name
+none-named : (text t : List ℕ) (name : Name) (i count : ℕ) → ((j : ℕ) → i ≤ j → j < i + count → printIn (cellOf t j) ≡ fingerprint text name → ⊥) → false ≡ someNamed text t i count name
+unfolding someNamed isEntryNamed
+none-named text t name i zero none = refl
+none-named text t name i (suc count) none =
+    rw (ne-eqb (printIn (cellOf t i)) (fingerprint text name) (none i (omega arith) (omega arith))) (none-named text t name (suc i) count (λ j l h. none j (omega (arith, l)) (omega (arith, h))))
 
-pub look-none : (text t : List ℕ) (from to : ℕ) (name : Name) {print : ℕ} {b : Bool} → print ≡ fingerprint text name → Agrees t from to print b → b ≡ false → Among text t from to name false
-look-none text t from to name e a y = record { each = λ cs b h. none-among text t from to name e (a .none y) (omega arith) h b }
+pub look-none : (text t : List ℕ) (from to : ℕ) (name : Name) {print : ℕ} {b : Bool} → print ≡ fingerprint text name → Agrees t from to print b → b ≡ false → false ≡ someNamed text t from (to - from) name
+look-none text t from to name e a y = none-named text t name from (to - from) (λ j l h q. a .none y j l (omega (arith, l, h)) (q ∙ sym e))

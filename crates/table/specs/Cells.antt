@@ -30,6 +30,10 @@ openAt = 36864
 abbrev pub size : ℕ
 size = 69632
 
+-- how many instances of closed definitions there is room for: the cells from `filedAt` to `openAt`
+abbrev pub filedRoom : ℕ
+filedRoom = 32768
+
 -- a kind's number, in the order addrmap, regfile, reg, field
 abbrev pub rank : Kind → ℕ
 rank kind.Addrmap = 0

@@ -8,13 +8,9 @@ use lib.ListN.{length, getD}
 use Rattle.chars.specs.Choice.{if_then_else_}
 use Rattle.parts.specs.Reading.{ok}
 use Rattle.parts.specs.Parts.{instanceAt}
-use Rattle.parts.specs.declared.Name.{Name}
-use Rattle.parts.specs.declared.Instance.{Instance}
-use Rattle.names.specs.Names.{sameName, isAmong, fingerprint}
-use Rattle.properties.specs.declared.Given.{Given}
-use Rattle.properties.specs.declared.Given.the-variants.{Number}
+use Rattle.names.specs.Names.{fingerprint}
 use Rattle.table.specs.Cells.{cellOf, filedAt, componentIn, firstIn, countIn, nameIn, belowIn, placeIn, rowIn, printIn}
-use Rattle.table.specs.Definitions.{Child, Definition, Entry, lookup, namesOf, noDefinition}
+use Rattle.table.specs.Definitions.{Child, Definition, Entry, noDefinition}
 
 -- a cell holds an instance
 pub record IsEntry (text : List ℕ) (x : ℕ) (c : Child) : Type 0 where
@@ -45,18 +41,6 @@ pub data Chain (t : List ℕ) (stop : ℕ) : ℕ → List Entry → Type 0 where
   chain-stop : Chain t stop stop []
   chain-on : {e : Entry} {es : List Entry} → stop ≤ e .row → nameIn t (e .row) ≡ e .name → stop ≤ belowIn t (e .row) → Chain t stop (belowIn t (e .row)) es → Chain t stop (suc (e .row)) (e ∷ es)
 
--- what `find_type` answers, for all types that stand there
-pub record Finds (text t : List ℕ) (head stop : ℕ) (name : Name) (answer : Given) : Type 0 where
-  pub low : (d : ℕ) → answer ≡ Number d → d < head
-  pub each : (es : List Entry) → Chain t stop head es → answer ≡ lookup text name es
-
--- what `is_named_at` and `is_entry_named` answer, for the instance that stands there
-pub record NamedAt (text : List ℕ) (place : ℕ) (name : Name) (answer : Bool) : Type 0 where
-  pub each : (i : Instance) (next : ℕ) → instanceAt text place ≡ ok i next → answer ≡ sameName text name (i .name)
-
-pub record EntryNamed (text : List ℕ) (x : ℕ) (name : Name) (answer : Bool) : Type 0 where
-  pub each : (c : Child) → IsEntry text x c → answer ≡ sameName text name (c .instance .name)
-
 -- 1 for equal fingerprints
 abbrev pub agreeing : ℕ → ℕ → ℕ
 agreeing a b = if eqb a b then 1 else 0
@@ -64,7 +48,3 @@ agreeing a b = if eqb a b then 1 else 0
 -- what `any_agrees` answers: where it says no, no cell from one up to another has this fingerprint
 pub record Agrees (t : List ℕ) (from to print : ℕ) (answer : Bool) : Type 0 where
   pub none : answer ≡ false → (j : ℕ) → from ≤ j → j < to → printIn (cellOf t j) ≡ print → ⊥
-
--- what `is_held` answers, for all instances that stand there
-pub record Among (text t : List ℕ) (from to : ℕ) (name : Name) (answer : Bool) : Type 0 where
-  pub each : (cs : List Child) → Block text t from cs → from + length cs ≡ to → answer ≡ isAmong text name (namesOf cs)

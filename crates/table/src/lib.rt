@@ -8,11 +8,14 @@ use parts::Kind;
 use parts::Name;
 use properties::Given;
 ghost use mathlib.Core.Path.{_≡_};
-ghost use Prim.Native.Nat.{_+_, _*_, _≤_, _<_};
+ghost use Prim.Native.Nat.{_+_, _-_, _*_, _≤_, _<_};
 ghost use lib.ListN.{set};
 ghost use Rattle.table.specs.Cells.{cellOf, rank, givenFrom, flagOf, numberOf, componentFrom, valuesIn, valuesOf, componentIn, nameIn, belowIn, valueCells, otherCells, written, entryOf, placeIn, rowIn, printIn, moved};
 ghost use Rattle.names.specs.Names.{fingerprint};
-ghost use Rattle.table.specs.Relation.{Finds, NamedAt, EntryNamed, agreeing, Agrees, Among};
+ghost use Rattle.parts.specs.Parts.{instanceAt};
+ghost use Rattle.table.specs.Decoded.{typesIn, isNamedAs, isEntryNamed, someNamed};
+ghost use Rattle.table.specs.Definitions.{lookup};
+ghost use Rattle.table.specs.Relation.{agreeing, Agrees};
 
 // Where the instances of closed definitions stand, and where those of open bodies do.
 pub const FILED: usize = 4096;
@@ -323,7 +326,7 @@ fn below_at(cells: &[u64], row: usize) -> usize
 // The row of the type that a name means, among those from a row's number (and one more) down to another's.
 pub fn find_type(text: &[u8], cells: &[u64], head: usize, stop: usize, name: Name) -> Given
     requires { ⌜ head ≤ 256 ⌝ }
-    ensures { λ r. ⌜ Finds (now (text .entry)) (now (cells .entry)) head stop name r ⌝ }
+    ensures { λ r. ⌜ r ≡ lookup (now (text .entry)) name (typesIn (now (cells .entry)) stop head) ⌝ }
 {
     let mut at = head;
     while stop < at {
@@ -340,7 +343,7 @@ pub fn find_type(text: &[u8], cells: &[u64], head: usize, stop: usize, name: Nam
 
 // Whether the instance at a place has this name.
 fn is_named_at(text: &[u8], place: usize, name: Name) -> bool
-    ensures { λ r. ⌜ NamedAt (now (text .entry)) place name r ⌝ }
+    ensures { λ r. ⌜ r ≡ isNamedAs (now (text .entry)) name (instanceAt (now (text .entry)) place) ⌝ }
 {
     let reading = parts::read_instance(text, place);
     match reading {
@@ -355,7 +358,7 @@ fn is_named_at(text: &[u8], place: usize, name: Name) -> bool
 // Whether the instance of a cell has this name, whose fingerprint is `print`: the text is looked at only where the fingerprints agree.
 fn is_entry_named(text: &[u8], entry: u64, name: Name, print: u64) -> bool
     requires { ⌜ print ≡ fingerprint (now text) name ⌝ }
-    ensures { λ r. ⌜ EntryNamed (now (text .entry)) entry name r ⌝ }
+    ensures { λ r. ⌜ r ≡ isEntryNamed (now (text .entry)) entry name ⌝ }
 {
     if print_in(entry) != print {
         return false;
@@ -394,7 +397,7 @@ fn any_agrees(cells: &[u64], from: usize, to: usize, print: u64) -> bool
 
 // Whether a name stands before in a body: among the instances from one cell up to another.
 pub fn is_held(text: &[u8], cells: &[u64], from: usize, to: usize, name: Name) -> bool
-    ensures { λ r. ⌜ Among (now (text .entry)) (now (cells .entry)) from to name r ⌝ }
+    ensures { λ r. ⌜ r ≡ someNamed (now (text .entry)) (now (cells .entry)) from (to - from) name ⌝ }
 {
     let print = names::fingerprint_of(text, name);
     if !any_agrees(cells, from, to, print) {

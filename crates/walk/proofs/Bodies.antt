@@ -97,7 +97,7 @@ none-left : {text t : List ℕ} {i to : ℕ} {rest : List Child} → to ≤ i �
 none-left l e block-end = refl
 none-left l e (block-on x b) = absurd (omega arith)
 
-module _ (content : ℕ → ℕ → List PathStep → List Visit) (shapes : List Shape) (path : List PathStep) (base m : ℕ) (a : Given) (end : Offset) where
+module _ (content : ℕ → Offset → List PathStep → List Visit) (shapes : List Shape) (path : List PathStep) (base : Offset) (m : ℕ) (a : Given) (end : Offset) where
   children-none : {cs : List Child} → cs ≡ [] → childVisits content shapes path base cs (laidFrom m a shapes end cs) ≡ []
   unfolding childVisits
   children-none e = rw e
@@ -114,11 +114,11 @@ abbrev bodyOf : List ℕ → List ℕ → Extent → ℕ → List Child
 bodyOf text t e row = definitionOf (known text t e) row .instances
 
 -- the elements of some instances, laid behind an offset
-abbrev walkOf : List ℕ → List ℕ → Extent → ℕ → Given → List PathStep → ℕ → Offset → List Child → List Visit
+abbrev walkOf : List ℕ → List ℕ → Extent → ℕ → Given → List PathStep → Offset → Offset → List Child → List Visit
 walkOf text t e levels a path address end cs =
     childVisits (visitsIn levels (e .mode) (known text t e) (allShapes text t e)) (allShapes text t e) path address cs (laidFrom (e .mode) a (allShapes text t e) end cs)
 
-pub record Walking (text t before : List ℕ) (e : Extent) (levels row : ℕ) (a : Given) (base : ℕ) (trail : Trail) (start : Tally) (to i : ℕ) (end : Offset) (tally : Tally) (log : List ℕ) : Type 0 where
+pub record Walking (text t before : List ℕ) (e : Extent) (levels row : ℕ) (a : Given) (base : Offset) (trail : Trail) (start : Tally) (to i : ℕ) (end : Offset) (tally : Tally) (log : List ℕ) : Type 0 where
   pub small : Small tally
   pub long : length log ≡ length before
   pub rest : List Child
@@ -127,13 +127,13 @@ pub record Walking (text t before : List ℕ) (e : Extent) (levels row : ℕ) (a
   pub children : ReadyChildren text t e row a rest
   pub behind : Offset
   pub cut-end : end ≡ cutOffset behind
-  pub each : (path : List PathStep) (address : ℕ) → Trails trail path → base ≡ cut address
+  pub each : (path : List PathStep) (address : Offset) → Trails trail path → base ≡ cutOffset address
       → Onto (known text t e) (allShapes text t e) before start (walkOf text t e levels a path address bottom (bodyOf text t e row)) log tally (walkOf text t e levels a path address behind rest)
 
 pub span-low : (text t : List ℕ) {s : List ℕ} {e : Extent} (row : ℕ) {from to : ℕ} → Shaped text t s e → row < e .rows → (from ≡ filedAt + firstIn t row) × (to ≡ from + countIn t row) → to ≤ 36864
 span-low text t {s} {e} row sh low span = omega (arith, span .0, span .1, ready-within text t e row (sh .ready) low)
 
-module _ (text t before : List ℕ) (e : Extent) (levels row : ℕ) (a : Given) (base : ℕ) (trail : Trail) (start : Tally) where
+module _ (text t before : List ℕ) (e : Extent) (levels row : ℕ) (a : Given) (base : Offset) (trail : Trail) (start : Tally) where
   pub walking-start : {s : List ℕ} {from to : ℕ} → Shaped text t s e → row < e .rows → GroupRow t row a → Small start → (from ≡ filedAt + firstIn t row) × (to ≡ from + countIn t row)
       → Walking text t before e levels row a base trail start to from (record { 0 = 0 }) start before
   walking-start {s} {from} {to} sh low g small span =
@@ -204,7 +204,7 @@ module _ (text t before : List ℕ) (e : Extent) (levels row : ℕ) (a : Given) 
                 ∙ ap (λ (v : Offset). cutLaid (laid (e .mode) a (cutShape (shapeAt (allShapes text t e) (ahead .child .type))) (ahead .child .instance) v)) (g .cut-end)
                 ∙ ready-laid text t e row a (ahead .child) (g .behind) (ahead .ready)
 
-            pub walking-placed : base ≤ cap → (base ≤ cap) × (u .start .0 ≤ cap)
+            pub walking-placed : base .0 ≤ cap → (base .0 ≤ cap) × (u .start .0 ≤ cap)
             walking-placed b = (b, rw same-laid (cut-bound (whole .start .0)))
 
             module _ {kid : Kid} (made : KidMade k it shape u base kid) where
@@ -218,7 +218,7 @@ module _ (text t before : List ℕ) (e : Extent) (levels row : ℕ) (a : Given) 
                     count = rw (made .instance, same-instance) (omega (arith, q .1));
                   }
 
-              kid-is : (address : ℕ) → base ≡ cut address → KidOf kid (ahead .child) (shapeAt (allShapes text t e) (ahead .child .type)) whole address
+              kid-is : (address : Offset) → base ≡ cutOffset address → KidOf kid (ahead .child) (shapeAt (allShapes text t e) (ahead .child .type)) whole address
               kid-is address b =
                   let q = sound-stride (kindOf (definitionOf (known text t e) (ahead .child .type) .component)) (ahead .child .instance) (ahead .ready .addressed) (ahead .ready .sound) in
                   let w : ltb (cut (whole .stride)) (cut (shapeAt (allShapes text t e) (ahead .child .type) .size)) ≡ ltb (whole .stride) (shapeAt (allShapes text t e) (ahead .child .type) .size) =
@@ -227,7 +227,7 @@ module _ (text t before : List ℕ) (e : Extent) (levels row : ℕ) (a : Given) 
                     row = made .row ∙ same-type;
                     instance = made .instance ∙ same-instance;
                     address =
-                        made .address ∙ ap (λ (v : Laid). cut (base + v .start .0)) same-laid ∙ ap (λ (v : ℕ). cut (v + cut (whole .start .0))) b ∙ cut-sum address (whole .start .0);
+                        made .address ∙ ap (λ (v : Laid). cut (base .0 + v .start .0)) same-laid ∙ ap (λ (v : Offset). cut (v .0 + cut (whole .start .0))) b ∙ cut-sum (address .0) (whole .start .0);
                     stride = made .stride ∙ ap (λ (v : Laid). v .stride) same-laid;
                     short =
                         made .short ∙ ap (λ (v : Instance). isArray (v .array) && ltb (u .stride) (shape .size)) same-instance
@@ -237,18 +237,18 @@ module _ (text t before : List ℕ) (e : Extent) (levels row : ℕ) (a : Given) 
                   }
 
               module _ {after : List ℕ} {q : Walked} (w : ArrayWalks text t log after e levels kid trail tally q) where
-                abbrev elements-ahead : List PathStep → ℕ → List Visit
+                abbrev elements-ahead : List PathStep → Offset → List Visit
                 elements-ahead path address =
                     elementVisits (visitsIn levels (e .mode) (known text t e) (allShapes text t e) (ahead .child .type)) path (ahead .child) address (shapeAt (allShapes text t e) (ahead .child .type)) whole 0
                     (elements (ahead .child .instance .array))
 
-                next : (path : List PathStep) (address : ℕ) → Trails trail path → base ≡ cut address
+                next : (path : List PathStep) (address : Offset) → Trails trail path → base ≡ cutOffset address
                     → Onto (known text t e) (allShapes text t e) before start (walkOf text t e levels a path address bottom (bodyOf text t e row)) log tally
                     (elements-ahead path address ++ walkOf text t e levels a path address (whole .end) (ahead .others))
                 next path address tr b =
                     rw (children-more (visitsIn levels (e .mode) (known text t e) (allShapes text t e)) (allShapes text t e) path address (e .mode) a (g .behind) (ahead .child) (ahead .others) (ahead .whole)) at (g .each path address tr b)
 
-                walks : (path : List PathStep) (address : ℕ) → Trails trail path → base ≡ cut address → Walks (known text t e) (allShapes text t e) log after tally (elements-ahead path address) q
+                walks : (path : List PathStep) (address : Offset) → Trails trail path → base ≡ cutOffset address → Walks (known text t e) (allShapes text t e) log after tally (elements-ahead path address) q
                 walks path address tr b = w .each path (ahead .child) whole address tr (kid-is address b)
 
                 pub walking-fault : {v : ℕ} → q ≡ walked.Fault v → ChildrenWalk text t before after e levels row a base trail start (walked.Fault v)

@@ -6,6 +6,7 @@ use Prim.Native.Nat.{ℕ, zero, suc, _+_, _-_, _*_, _≤_, _<_}
 use native.Mathlib.Omega.{arith}
 use lib.ListN.{length, length-append}
 use Rattle.properties.specs.declared.Given.{Given}
+use Rattle.components.specs.declared.Offset.{Offset}
 use Rattle.components.specs.declared.FieldType.{FieldType}
 use Rattle.components.specs.declared.Register.{Register}
 use Rattle.components.specs.declared.Component.{Component}
@@ -24,10 +25,10 @@ use Rattle.walk.specs.declared.Element.{Element}
 use Rattle.walk.specs.declared.Walked.{Walked}
 use Rattle.walk.specs.declared.Walked.the-variants as walked
 use Rattle.walk.specs.Runs.{stepOf, run, logged}
-use Rattle.walk.specs.Walks.{Shaped, Small, Walks, walks-fault, walks-on, visitOf, VisitWalks, ContentWalks, ElementWalks, ChildrenWalk}
+use Rattle.walk.specs.Walks.{Shaped, Small, Walks, walks-on, visitOf, VisitWalks, ContentWalks, ElementWalks, ChildrenWalk}
 use Rattle.walk.proofs.Runs.{onto-start, onto-fault, onto-then}
 use Rattle.walk.proofs.Trails.{trails-more}
-use Rattle.walk.proofs.Visited.{deep-fault}
+use Rattle.walk.proofs.Visited.{deep-stops}
 use Rattle.walk.proofs.Rowed.{known-component}
 
 -- an answer with the counts as they were
@@ -42,7 +43,7 @@ walks-none : {table : List Definition} {shapes : List Shape} {log : List ℕ} {t
 unfolding run logged
 walks-none {t = t} e = rw e (walks-on {u = t} refl refl)
 
-module _ (m : ℕ) (table : List Definition) (shapes : List Shape) (row base : ℕ) (path : List PathStep) where
+module _ (m : ℕ) (table : List Definition) (shapes : List Shape) (row : ℕ) (base : Offset) (path : List PathStep) where
   visits-none : (levels : ℕ) → levels ≡ 0 → visitsIn levels m table shapes row base path ≡ []
   unfolding visitsIn
   visits-none levels e = rw e
@@ -72,7 +73,7 @@ module _ (t : List ℕ) (row : ℕ) {c : Component} (q : c ≡ componentIn t row
   map-row {a} {m} f = rw (← q, f) (of-map {a = a} {m = m})
 
 -- `walk_content`
-module _ (text t : List ℕ) (e : Extent) (levels row base : ℕ) (trail : Trail) (start : Tally) (small : Small start) where
+module _ (text t : List ℕ) (e : Extent) (levels row : ℕ) (base : Offset) (trail : Trail) (start : Tally) (small : Small start) where
   pub content-none : {log : List ℕ} → levels ≡ 0 → ContentWalks text t log log e levels row base trail start (walked.On start)
   content-none z = record { small = small-same small; each = λ path address tr b. walks-none (visits-none (e .mode) (known text t e) (allShapes text t e) row address path levels z) }
 
@@ -110,9 +111,8 @@ module _ (text t : List ℕ) (e : Extent) (levels : ℕ) (x : Element) (before :
         each = λ path index address tr i a.
             let v : Visit = visitOf x path index address in
             let n : length (v .path) ≡ length path + 1 = length-append path (record { name = x .name; index = index } ∷ []) in
-            walks-fault {p = x .name .start}
-            (deep-fault (known text t e) (allShapes text t e) log start v (omega (arith, n, tr .depth, d))
-            (visitsIn levels (e .mode) (known text t e) (allShapes text t e) (x .row) address (path ++ (record { name = x .name; index = index } ∷ []))));
+            deep-stops (known text t e) (allShapes text t e) log start v (omega (arith, n, tr .depth, d))
+            (visitsIn levels (e .mode) (known text t e) (allShapes text t e) (x .row) address (path ++ (record { name = x .name; index = index } ∷ [])));
       }
 
   module _ (high : before .depth ≤ 8) (d : before .depth ≡ 8 → ⊥) where

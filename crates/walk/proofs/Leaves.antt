@@ -16,6 +16,7 @@ use Rattle.parts.specs.declared.Array.the-variants as array
 use Rattle.suffixes.specs.Suffixes.{firstOf, isArray}
 use Rattle.suffixes.specs.declared.Fault.{Fault}
 use Rattle.suffixes.specs.declared.Fault.the-variants.{Sound, Broken}
+use Rattle.components.specs.declared.Offset.{Offset}
 use Rattle.table.specs.Cells.{written}
 use Rattle.offsets.specs.Offsets.{cap, cut}
 use Rattle.layout.specs.declared.Shape.{Shape}
@@ -44,18 +45,18 @@ module _ (x : Element) where
 
 -- 20
 module _ (x : Element) (s : Shape) where
-  pub place-off : (x .address % s .access ≡ 0 → ⊥) → Broken 20 (x .name .start) ≡ placeFault x s
+  pub place-off : (x .address .0 % s .access ≡ 0 → ⊥) → Broken 20 (x .name .start) ≡ placeFault x s
   unfolding placeFault
-  place-off e = rw (ne-eqb (x .address % s .access) 0 e)
+  place-off e = rw (ne-eqb (x .address .0 % s .access) 0 e)
 
-  module _ (e : x .address % s .access ≡ 0) where
-    pub place-above : addressLimit < x .address + s .size → Broken 20 (x .name .start) ≡ placeFault x s
+  module _ (e : x .address .0 % s .access ≡ 0) where
+    pub place-above : addressLimit < x .address .0 + s .size → Broken 20 (x .name .start) ≡ placeFault x s
     unfolding placeFault
-    place-above h = rw (eq-eqb (x .address % s .access) 0 e, lt-ltb addressLimit (x .address + s .size) h)
+    place-above h = rw (eq-eqb (x .address .0 % s .access) 0 e, lt-ltb addressLimit (x .address .0 + s .size) h)
 
-    pub place-fits : x .address + s .size ≤ addressLimit → Sound ≡ placeFault x s
+    pub place-fits : x .address .0 + s .size ≤ addressLimit → Sound ≡ placeFault x s
     unfolding placeFault
-    place-fits h = rw (eq-eqb (x .address % s .access) 0 e, le-ltb addressLimit (x .address + s .size) h)
+    place-fits h = rw (eq-eqb (x .address .0 % s .access) 0 e, le-ltb addressLimit (x .address .0 + s .size) h)
 
 -- three cells, written
 pub three-written : (t : List ℕ) (i a b c : ℕ) → set (set (set t i a) (i + 1) b) (i + 2) c ≡ written t i (a ∷ b ∷ c ∷ [])
@@ -95,8 +96,8 @@ pub group-visited : (t : Tally) (x : Element) {f g : Fault} → g ≡ closeFault
 group-visited t x e h = rw (h, e)
 
 -- `kid_of`
-pub kid-made : (row : ℕ) (i : Instance) (s : Shape) (l : Laid) (base : ℕ) {a : ℕ} {b : Bool} → (a ≡ cut (base + l .start .0)) × (a ≤ cap) → b ≡ (isArray (i .array) && ltb (l .stride) (s .size))
-    → KidMade row i s l base (record { row = row; instance = i; address = a; stride = l .stride; short = b })
+pub kid-made : (row : ℕ) (i : Instance) (s : Shape) (l : Laid) (base : Offset) {a : ℕ} {b : Bool} → (a ≡ cut (base .0 + l .start .0)) × (a ≤ cap) → b ≡ (isArray (i .array) && ltb (l .stride) (s .size))
+    → KidMade row i s l base (record { row = row; instance = i; address = record { 0 = a }; stride = l .stride; short = b })
 kid-made row i s l base h e = record { row = refl; instance = refl; address = h .0; low = h .1; stride = refl; short = e }
 
 module _ {x b : Bool} (a : Array) (stride size : ℕ) (e : x ≡ isArray a) where

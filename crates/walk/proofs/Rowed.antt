@@ -1,5 +1,5 @@
 -- Rows of the table: a register's shape, and an element of a row without its content.
-use mathlib.Core.Path.{_≡_, refl, subst, _∙_}
+use mathlib.Core.Path.{_≡_, refl, ap, subst, _∙_}
 use mathlib.Core.Bool.{true, false}
 use mathlib.Core.List.{List, [], _∷_}
 use Prim.Native.Nat.{ℕ, _+_, _-_, _*_, _≤_, _<_}
@@ -8,6 +8,7 @@ use lib.ListN.{length}
 use Rattle.suffixes.specs.Suffixes.{firstOf}
 use Rattle.suffixes.specs.declared.Fault.{Fault}
 use Rattle.properties.specs.declared.Given.{Given}
+use Rattle.components.specs.declared.Offset.{Offset}
 use Rattle.components.specs.declared.FieldType.{FieldType}
 use Rattle.components.specs.declared.Register.{Register}
 use Rattle.components.specs.declared.Component.{Component}
@@ -33,7 +34,7 @@ use Rattle.walk.specs.declared.Element.{Element}
 use Rattle.walk.specs.declared.Walked.{Walked}
 use Rattle.walk.specs.declared.Walked.the-variants as walked
 use Rattle.walk.specs.Runs.{logWidth, logRow}
-use Rattle.walk.specs.Walks.{Shaped, Small, walks-fault, IsRegisterOf, of-register, RegisterRow, closeFault, placeFault, GroupVisited, visitOf, VisitWalks}
+use Rattle.walk.specs.Walks.{Shaped, Small, IsRegisterOf, of-register, RegisterRow, closeFault, placeFault, GroupVisited, visitOf, VisitWalks}
 use Rattle.walk.proofs.Visited.{close-same, place-same, group-on, register-many, register-fields, register-on}
 
 -- a register's shape: up to eight bytes
@@ -80,7 +81,7 @@ module _ (text t s : List ℕ) (e : Extent) (x : Element) (tally : Tally) (sh : 
           small = λ u q. absurd (let z : _≡_ {A = ℕ} 0 1 = cc in omega arith);
           each = λ path index address tr a.
               let v : Visit = visitOf x path index address in
-              walks-fault {p = x .name .start} (register-many (known text t e) (allShapes text t e) log tally v (known-register text t e (x .row) (sh .ready) low r) h);
+              register-many (known text t e) (allShapes text t e) log tally v (known-register text t e (x .row) (sh .ready) low r) h;
         }
 
     pub register-fielded : {log : List ℕ} {trail : Trail} → RegisterRow t (x .row) → fieldLimit < tally .fields + (to - from) → VisitWalks text t log log e x trail tally (walked.Fault (x .name .start))
@@ -89,7 +90,7 @@ module _ (text t s : List ℕ) (e : Extent) (x : Element) (tally : Tally) (sh : 
           small = λ u q. absurd (let z : _≡_ {A = ℕ} 0 1 = cc in omega arith);
           each = λ path index address tr a.
               let v : Visit = visitOf x path index address in
-              walks-fault {p = x .name .start} (register-fields (known text t e) (allShapes text t e) log tally v (known-register text t e (x .row) (sh .ready) low r) fields-same h);
+              register-fields (known text t e) (allShapes text t e) log tally v (known-register text t e (x .row) (sh .ready) low r) fields-same h;
         }
 
     module _ (r : RegisterRow t (x .row)) {shape : Shape} (z : shape ≡ shapeIn s (x .row)) where
@@ -105,7 +106,7 @@ module _ (text t s : List ℕ) (e : Extent) (x : Element) (tally : Tally) (sh : 
           )
 
       pub register-walked : {log after : List ℕ} {trail : Trail} {close place f g : Fault} → trail .depth ≤ 8 → tally .registers < registerLimit → tally .fields + (to - from) ≤ fieldLimit
-          → after ≡ written log (tally .registers * 27) (x .address ∷ x .row ∷ trail .depth ∷ trail .steps) → close ≡ closeFault x → f ≡ firstOf (tally .close) close
+          → after ≡ written log (tally .registers * 27) (x .address .0 ∷ x .row ∷ trail .depth ∷ trail .steps) → close ≡ closeFault x → f ≡ firstOf (tally .close) close
           → place ≡ placeFault x shape → g ≡ firstOf (tally .misplaced) place
           → VisitWalks text t log after e x trail tally (walked.On (record { registers = tally .registers + 1; fields = tally .fields + (to - from); close = f; misplaced = g }))
       unfolding logRow
@@ -119,7 +120,7 @@ module _ (text t s : List ℕ) (e : Extent) (x : Element) (tally : Tally) (sh : 
                 let k : Eight (shapeAt (allShapes text t e) (x .row)) = known-eight text t e (x .row) (sh .ready) low r in
                 let is : isRegisterVisit (known text t e) v ≡ true = known-register text t e (x .row) (sh .ready) low r in
                 let l : length (v .path) ≤ nestLimit = rw (← tr .depth) d in
-                let row : after ≡ written log (tally .registers * logWidth) (logRow v) = rw (← a, ← tr .depth, ← tr .steps) w in
+                let row : after ≡ written log (tally .registers * logWidth) (logRow v) = rw (← ap (λ (o : Offset). o .0) a, ← tr .depth, ← tr .steps) w in
                 let there : placeFault x shape ≡ misplaced (known text t e) (allShapes text t e) (v ∷ []) =
                 place-same (known text t e) (allShapes text t e) x path index address is (omega (arith, k .size)) (omega (arith, k .access)) a stored in
                 register-on (known text t e) (allShapes text t e) log tally v is fields-same l m n row (c ∙ close-same x path index address) (q ∙ there) refl (rw (p, o));

@@ -12,13 +12,14 @@ use Rattle.suffixes.specs.Suffixes.{firstOf}
 use Rattle.suffixes.specs.declared.Fault.{Fault}
 use Rattle.suffixes.specs.declared.Fault.the-variants.{Sound, Broken}
 use Rattle.properties.specs.declared.Given.{Given}
-use Rattle.properties.specs.Judged.{fault, fine, unless}
+use Rattle.properties.specs.Judged.{fine, unless}
+use Rattle.components.specs.declared.Offset.{Offset}
 use Rattle.table.specs.Cells.{written}
 use Rattle.table.specs.Definitions.{Definition, definitionOf}
 use Rattle.offsets.specs.Offsets.{cap, cut}
 use Rattle.offsets.proofs.Laws.{cut-low, cut-high}
 use Rattle.layout.specs.declared.Shape.{Shape}
-use Rattle.layout.specs.Layout.{shapeAt, cutShape}
+use Rattle.layout.specs.Layout.{shapeAt, cutShape, cutOffset}
 use Rattle.rows.specs.Limits.{nestLimit, registerLimit, fieldLimit, addressLimit}
 use Rattle.map.specs.Visits.{PathStep, Visit}
 use Rattle.map.specs.Whole.{isRegisterVisit, tooClose, misplaced}
@@ -26,10 +27,11 @@ use Rattle.walk.specs.declared.Tally.{Tally}
 use Rattle.walk.specs.declared.Element.{Element}
 use Rattle.walk.specs.declared.Walked.{Walked}
 use Rattle.walk.specs.declared.Walked.the-variants as walked
-use Rattle.walk.specs.Runs.{isTooMany, tallied, run, logWidth, logRow, logged}
-use Rattle.walk.specs.Walks.{Small, Walks, walks-on, closeFault, placeFault, visitOf}
+use Rattle.walk.specs.Runs.{isTooMany, tallied, run, logWidth, logRow, loggedOne, logged}
+use Rattle.walk.specs.Walks.{Small, Walks, walks-fault, walks-on, closeFault, placeFault, visitOf}
+use Rattle.walk.proofs.Runs.{logged-step}
 
-pub close-same : (x : Element) (path : List PathStep) (index : Given) (address : ℕ) → closeFault x ≡ tooClose (visitOf x path index address ∷ [])
+pub close-same : (x : Element) (path : List PathStep) (index : Given) (address : Offset) → closeFault x ≡ tooClose (visitOf x path index address ∷ [])
 unfolding closeFault tooClose
 close-same x path index address = refl
 
@@ -51,12 +53,12 @@ place-tests address s g h = by (ltb address cap) refl
         or-true (not (eqb (cut address % cut (s .access)) 0)) (lt-ltb addressLimit (cut address + cut (s .size)) (omega (arith, z)))
         ∙ sym (or-true (not (eqb (address % s .access) 0)) (lt-ltb addressLimit (address + s .size) (omega (arith, l))))
 
-pub place-same : (table : List Definition) (shapes : List Shape) (x : Element) {s : Shape} (path : List PathStep) (index : Given) (address : ℕ)
+pub place-same : (table : List Definition) (shapes : List Shape) (x : Element) {s : Shape} (path : List PathStep) (index : Given) (address : Offset)
     → isRegisterVisit table (visitOf x path index address) ≡ true → shapeAt shapes (x .row) .size < cap → shapeAt shapes (x .row) .access < cap
-    → x .address ≡ cut address → s ≡ cutShape (shapeAt shapes (x .row)) → placeFault x s ≡ misplaced table shapes (visitOf x path index address ∷ [])
+    → x .address ≡ cutOffset address → s ≡ cutShape (shapeAt shapes (x .row)) → placeFault x s ≡ misplaced table shapes (visitOf x path index address ∷ [])
 unfolding placeFault misplaced
 place-same table shapes x path index address r g h e f =
-    rw (r, e, f) (ap (λ (b : Bool). if b then Broken 20 (x .name .start) else Sound) (place-tests address (shapeAt shapes (x .row)) g h))
+    rw (r, e, f) (ap (λ (b : Bool). if b then Broken 20 (x .name .start) else Sound) (place-tests (address .0) (shapeAt shapes (x .row)) g h))
 
 -- nothing behind a fault
 pub first-none : (a : Fault) → firstOf a Sound ≡ a
@@ -64,10 +66,20 @@ first-none Sound = refl
 first-none (Broken n p) = refl
 
 module _ (table : List Definition) (shapes : List Shape) (log : List ℕ) (t : Tally) (v : Visit) where
+  -- 18: nothing is logged
+  many-stops : isTooMany table t v ≡ true → (vs : List Visit) → Walks table shapes log log t (v ∷ vs) (walked.Fault (v .name .start))
+  unfolding run logged unless
+  many-stops e vs = walks-fault {p = v .name .start} (rw e) (rw e)
+
   -- a path that is too long
-  pub deep-fault : nestLimit < length (v .path) → (vs : List Visit) → run table shapes t (v ∷ vs) ≡ fault 18 (v .name .start)
-  unfolding run isTooMany unless
-  deep-fault h vs = rw (lt-ltb nestLimit (length (v .path)) h)
+  pub deep-stops : nestLimit < length (v .path) → (vs : List Visit) → Walks table shapes log log t (v ∷ vs) (walked.Fault (v .name .start))
+  unfolding isTooMany
+  deep-stops h vs = many-stops (rw (lt-ltb nestLimit (length (v .path)) h)) vs
+
+  -- the log with an element that is not too many
+  one-logged : isTooMany table t v ≡ false → logged table shapes log t (v ∷ []) ≡ loggedOne table log t v
+  unfolding logged
+  one-logged e = logged-step table shapes log t v [] e
 
   module _ (h : length (v .path) ≤ nestLimit) where
     run-one : (b : Bool) {u : Tally} → isTooMany table t v ≡ b → tallied table shapes t v ≡ u → run table shapes t (v ∷ []) ≡ unless b 18 (v .name .start) (fine u)
@@ -76,32 +88,32 @@ module _ (table : List Definition) (shapes : List Shape) (log : List ℕ) (t : T
 
     pub group-on : {r : Walked} {close : Fault} → isRegisterVisit table v ≡ false → Small t → close ≡ tooClose (v ∷ [])
         → r ≡ walked.On (record { registers = t .registers; fields = t .fields; close = firstOf (t .close) close; misplaced = t .misplaced }) → Walks table shapes log log t (v ∷ []) r
-    unfolding isTooMany tallied misplaced logged unless
+    unfolding isTooMany tallied misplaced unless
     group-on {close = close} g s c e =
         let few : isTooMany table t v ≡ false =
         rw (le-ltb nestLimit (length (v .path)) h, g, le-ltb registerLimit (t .registers) (s .registers), le-ltb fieldLimit (t .fields) (s .fields)) in
         let u : Tally = record { registers = t .registers; fields = t .fields; close = firstOf (t .close) close; misplaced = t .misplaced } in
         let same : tallied table shapes t v ≡ u = rw (g, c, first-none (t .misplaced)) in
-        rw e (walks-on {u = u} (run-one false few same) (rw g))
+        rw e (walks-on {u = u} (run-one false few same) (sym (one-logged few ∙ ap (λ (b : Bool). if b then written log (t .registers * logWidth) (logRow v) else log) g)))
 
   module _ (g : isRegisterVisit table v ≡ true) where
-    pub register-many : registerLimit ≤ t .registers → run table shapes t (v ∷ []) ≡ fault 18 (v .name .start)
-    unfolding run isTooMany unless
-    register-many m = rw (g, lt-ltb registerLimit (suc (t .registers)) (omega arith), or-true (ltb nestLimit (length (v .path))) {c = true} refl)
+    pub register-many : registerLimit ≤ t .registers → Walks table shapes log log t (v ∷ []) (walked.Fault (v .name .start))
+    unfolding isTooMany
+    register-many m = many-stops (rw (g, lt-ltb registerLimit (suc (t .registers)) (omega arith), or-true (ltb nestLimit (length (v .path))) {c = true} refl)) []
 
     module _ {fields : ℕ} (f : fields ≡ t .fields + length (definitionOf table (v .type) .instances)) where
-      pub register-fields : fieldLimit < fields → run table shapes t (v ∷ []) ≡ fault 18 (v .name .start)
-      unfolding run isTooMany unless
+      pub register-fields : fieldLimit < fields → Walks table shapes log log t (v ∷ []) (walked.Fault (v .name .start))
+      unfolding isTooMany
       register-fields m =
           let e : (ltb nestLimit (length (v .path)) || (ltb registerLimit (suc (t .registers)) || ltb fieldLimit (t .fields + length (definitionOf table (v .type) .instances)))) ≡ true =
           or-true (ltb nestLimit (length (v .path))) (or-true (ltb registerLimit (suc (t .registers))) (rw (← f) (lt-ltb fieldLimit fields m))) in
-          rw (g, e)
+          many-stops (rw (g, e)) []
 
       pub register-on : length (v .path) ≤ nestLimit → t .registers < registerLimit → fields ≤ fieldLimit → {after : List ℕ} {r : Walked} {close place : Fault} {n : ℕ}
           → after ≡ written log (t .registers * logWidth) (logRow v) → close ≡ tooClose (v ∷ []) → place ≡ misplaced table shapes (v ∷ [])
           → n ≡ t .registers + 1 → r ≡ walked.On (record { registers = n; fields = fields; close = firstOf (t .close) close; misplaced = firstOf (t .misplaced) place })
           → Walks table shapes log after t (v ∷ []) r
-      unfolding isTooMany tallied logged unless
+      unfolding isTooMany tallied unless
       register-on h m k {after = after} {close = close} {place = place} {n = n} w c d o e =
           let k′ : t .fields + length (definitionOf table (v .type) .instances) ≤ fieldLimit = rw (← f) k in
           let few : isTooMany table t v ≡ false =
@@ -109,4 +121,4 @@ module _ (table : List Definition) (shapes : List Shape) (log : List ℕ) (t : T
           let u : Tally = record { registers = n; fields = fields; close = firstOf (t .close) close; misplaced = firstOf (t .misplaced) place } in
           let q : n ≡ suc (t .registers) = omega (arith, o) in
           let same : tallied table shapes t v ≡ u = rw (g, c, d, q, f) in
-          rw e (walks-on {u = u} (run-one h false few same) (rw g w))
+          rw e (walks-on {u = u} (run-one h false few same) (w ∙ sym (one-logged few ∙ ap (λ (b : Bool). if b then written log (t .registers * logWidth) (logRow v) else log) g)))

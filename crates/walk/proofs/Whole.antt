@@ -7,10 +7,11 @@ use native.Mathlib.Omega.{arith}
 use lib.Dec.{eqb, ltb}
 use lib.ListN.{length}
 use Rattle.chars.specs.Choice.{if_then_else_}
+use Rattle.chars.proofs.Laws.{either}
 use Rattle.suffixes.specs.Suffixes.{firstOf}
 use Rattle.suffixes.specs.declared.Fault.{Fault}
 use Rattle.suffixes.specs.declared.Fault.the-variants.{Sound, Broken}
-use Rattle.properties.specs.Judged.{fault, fine, unless}
+use Rattle.properties.specs.Judged.{Judged, fault, fine, unless}
 use Rattle.table.specs.Cells.{cellOf, written}
 use Rattle.table.specs.Definitions.{Definition, definitionOf}
 use Rattle.table.proofs.Laws.{written-length, written-other, written-same}
@@ -20,10 +21,10 @@ use Rattle.rows.specs.Limits.{addressLimit}
 use Rattle.map.specs.Visits.{Visit}
 use Rattle.map.specs.Whole.{isRegisterVisit, offence, tooMany, tooClose, misplaced}
 use Rattle.walk.specs.declared.Tally.{Tally}
-use Rattle.walk.specs.Runs.{registersWith, fieldsWith, isTooMany, tallied, run, stepCells, logWidth, logRow, logged}
+use Rattle.walk.specs.Runs.{nothingTallied, registersWith, fieldsWith, isTooMany, tallied, run, stepCells, logWidth, logRow, loggedOne, logged}
 use Rattle.map.specs.Whole.{registersAmong, fieldsAmong}
 use Rattle.walk.specs.Walks.{LogRow, visitAt, Logs}
-use Rattle.walk.proofs.Runs.{run-step, run-none}
+use Rattle.walk.proofs.Runs.{run-step, run-none, logged-step}
 use Rattle.rows.proofs.Padded.{length-padded}
 use Rattle.walk.proofs.Visited.{first-none}
 
@@ -43,7 +44,7 @@ close-more v vs = by (v .short)
 misplaced-more : (table : List Definition) (shapes : List Shape) (v : Visit) (vs : List Visit) → misplaced table shapes (v ∷ vs) ≡ firstOf (misplaced table shapes (v ∷ [])) (misplaced table shapes vs)
 unfolding misplaced
 misplaced-more table shapes v vs =
-    by (isRegisterVisit table v && (not (eqb (v .address % shapeAt shapes (v .type) .access) 0) || ltb addressLimit (v .address + shapeAt shapes (v .type) .size)))
+    by (isRegisterVisit table v && (not (eqb (v .address .0 % shapeAt shapes (v .type) .access) 0) || ltb addressLimit (v .address .0 + shapeAt shapes (v .type) .size)))
   where
     by : (b : Bool) → (if b then offence 20 v else misplaced table shapes vs) ≡ firstOf (if b then offence 20 v else Sound) (misplaced table shapes vs)
     by true = refl
@@ -105,15 +106,26 @@ row-length : (v : Visit) → length (logRow v) ≡ logWidth
 unfolding logRow
 row-length v = omega (arith, length-padded 24 (stepCells (v .path)))
 
-logged-below : (table : List Definition) (log : List ℕ) (n : ℕ) (vs : List Visit) (j : ℕ) → j < n * logWidth → cellOf (logged table log n vs) j ≡ cellOf log j
+-- how many registers there are with an element
+counted : (table : List Definition) (shapes : List Shape) (t : Tally) (v : Visit) {b : Bool} → isRegisterVisit table v ≡ b → tallied table shapes t v .registers ≡ (if b then suc (t .registers) else t .registers)
+unfolding tallied
+counted table shapes t v e = ap (λ (c : Bool). if c then suc (t .registers) else t .registers) e
+
+-- more elements leave the rows before
+tallied-more : (table : List Definition) (shapes : List Shape) (t : Tally) (v : Visit) → t .registers ≤ tallied table shapes t v .registers
+unfolding tallied
+tallied-more table shapes t v = either (λ (n : ℕ). t .registers ≤ n) (isRegisterVisit table v) (λ _. omega arith) (λ _. omega arith)
+
+one-below : (table : List Definition) (log : List ℕ) (t : Tally) (v : Visit) (j : ℕ) → j < t .registers * logWidth → cellOf (loggedOne table log t v) j ≡ cellOf log j
+one-below table log t v j h =
+    either (λ (l : List ℕ). cellOf l j ≡ cellOf log j) (isRegisterVisit table v) (λ _. written-other log (t .registers * logWidth) (logRow v) j (λ l. absurd (omega (arith, h, l)))) (λ _. refl)
+
+logged-below : (table : List Definition) (shapes : List Shape) (log : List ℕ) (t : Tally) (vs : List Visit) (j : ℕ) → j < t .registers * logWidth → cellOf (logged table shapes log t vs) j ≡ cellOf log j
 unfolding logged
-logged-below table log n [] j h = refl
-logged-below table log n (v ∷ vs) j h = by (isRegisterVisit table v) (logged-below table (written log (n * logWidth) (logRow v)) (suc n) vs j (omega arith)) (logged-below table log n vs j h)
-  where
-    by : (b : Bool) → cellOf (logged table (written log (n * logWidth) (logRow v)) (suc n) vs) j ≡ cellOf (written log (n * logWidth) (logRow v)) j → cellOf (logged table log n vs) j ≡ cellOf log j
-        → cellOf (if b then logged table (written log (n * logWidth) (logRow v)) (suc n) vs else logged table log n vs) j ≡ cellOf log j
-    by true f g = f ∙ written-other log (n * logWidth) (logRow v) j (λ l. absurd (omega arith))
-    by false f g = g
+logged-below table shapes log t [] j h = refl
+logged-below table shapes log t (v ∷ vs) j h =
+    either (λ (l : List ℕ). cellOf l j ≡ cellOf log j) (isTooMany table t v) (λ _. refl)
+    (λ _. logged-below table shapes (loggedOne table log t v) (tallied table shapes t v) vs j (omega (arith, h, tallied-more table shapes t v)) ∙ one-below table log t v j h)
 
 -- a row of the log, written
 row-written : (log : List ℕ) (n : ℕ) (v : Visit) → suc n * logWidth ≤ length log → LogRow (written log (n * logWidth) (logRow v)) n v
@@ -129,35 +141,59 @@ row-written log n v h =
           rw z (written-same log (n * logWidth) (logRow v) (suc (suc (suc k))) m (omega (arith, row-length v)));
     }
 
-row-kept : (table : List Definition) (log : List ℕ) (n i : ℕ) (vs : List Visit) {v : Visit} → i < n → LogRow log i v → LogRow (logged table log n vs) i v
-row-kept table log n i vs h r =
+row-kept : (table : List Definition) (shapes : List Shape) (log : List ℕ) (t : Tally) (i : ℕ) (vs : List Visit) {v : Visit} → i < t .registers → LogRow log i v
+    → LogRow (logged table shapes log t vs) i v
+row-kept table shapes log t i vs h r =
     record {
-      address = logged-below table log n vs (i * logWidth) (omega arith) ∙ r .address;
-      type = logged-below table log n vs (i * logWidth + 1) (omega arith) ∙ r .type;
-      depth = logged-below table log n vs (i * logWidth + 2) (omega arith) ∙ r .depth;
-      steps = λ k l. logged-below table log n vs (i * logWidth + 3 + k) (omega arith) ∙ r .steps k l;
+      address = logged-below table shapes log t vs (i * logWidth) (omega (arith, h)) ∙ r .address;
+      type = logged-below table shapes log t vs (i * logWidth + 1) (omega (arith, h)) ∙ r .type;
+      depth = logged-below table shapes log t vs (i * logWidth + 2) (omega (arith, h)) ∙ r .depth;
+      steps = λ k l. logged-below table shapes log t vs (i * logWidth + 3 + k) (omega (arith, h, l)) ∙ r .steps k l;
     }
 
-logged-rows : (table : List Definition) (log : List ℕ) (n : ℕ) (vs : List Visit) (i : ℕ) → i < length (registersAmong table vs) → (n + length (registersAmong table vs)) * logWidth ≤ length log
-    → LogRow (logged table log n vs) (n + i) (visitAt (registersAmong table vs) i)
-unfolding logged registersAmong
-logged-rows table log n [] i l h = absurd (omega arith)
-logged-rows table log n (v ∷ vs) i l h =
-    by (isRegisterVisit table v) i l h (λ j. logged-rows table (written log (n * logWidth) (logRow v)) (suc n) vs j) (λ j. logged-rows table log n vs j)
+-- the registers of a run that is fine, one a row
+logged-rows : (table : List Definition) (shapes : List Shape) (log : List ℕ) (t : Tally) (vs : List Visit) {u : Tally} → run table shapes t vs ≡ fine u
+    → (i : ℕ) → i < length (registersAmong table vs) → (t .registers + length (registersAmong table vs)) * logWidth ≤ length log
+    → LogRow (logged table shapes log t vs) (t .registers + i) (visitAt (registersAmong table vs) i)
+unfolding registersAmong
+logged-rows table shapes log t [] e i l h = absurd (omega arith)
+logged-rows table shapes log t (v ∷ vs) e i l h =
+    let (few, f) = run-step table shapes t v vs e in
+    rw (logged-step table shapes log t v vs few)
+    (by (isRegisterVisit table v) refl i l h (λ x j. logged-rows table shapes x (tallied table shapes t v) vs f j))
   where
-    by : (b : Bool) (i : ℕ) → i < length (if b then v ∷ registersAmong table vs else registersAmong table vs) → (n + length (if b then v ∷ registersAmong table vs else registersAmong table vs)) * logWidth ≤ length log
-        → ((j : ℕ) → j < length (registersAmong table vs) → (suc n + length (registersAmong table vs)) * logWidth ≤ length (written log (n * logWidth) (logRow v))
-        → LogRow (logged table (written log (n * logWidth) (logRow v)) (suc n) vs) (suc n + j) (visitAt (registersAmong table vs) j))
-        → ((j : ℕ) → j < length (registersAmong table vs) → (n + length (registersAmong table vs)) * logWidth ≤ length log → LogRow (logged table log n vs) (n + j) (visitAt (registersAmong table vs) j))
-        → LogRow (if b then logged table (written log (n * logWidth) (logRow v)) (suc n) vs else logged table log n vs) (n + i) (visitAt (if b then v ∷ registersAmong table vs else registersAmong table vs) i)
-    by true zero l h f g =
-        let z : n + 0 ≡ n = omega arith in
-        rw z (row-kept table (written log (n * logWidth) (logRow v)) (suc n) n vs (omega arith) (row-written log n v (omega (arith, h))))
-    by true (suc i) l h f g =
-        let z : n + suc i ≡ suc n + i = omega arith in
-        rw z (f i (omega (arith, l)) (omega (arith, h, written-length log (n * logWidth) (logRow v))))
-    by false i l h f g = g i l h
+    by : (b : Bool) → isRegisterVisit table v ≡ b → (i : ℕ) → i < length (if b then v ∷ registersAmong table vs else registersAmong table vs)
+        → (t .registers + length (if b then v ∷ registersAmong table vs else registersAmong table vs)) * logWidth ≤ length log
+        → ((x : List ℕ) (j : ℕ) → j < length (registersAmong table vs) → (tallied table shapes t v .registers + length (registersAmong table vs)) * logWidth ≤ length x
+        → LogRow (logged table shapes x (tallied table shapes t v) vs) (tallied table shapes t v .registers + j) (visitAt (registersAmong table vs) j))
+        → LogRow (logged table shapes (if b then written log (t .registers * logWidth) (logRow v) else log) (tallied table shapes t v) vs) (t .registers + i)
+        (visitAt (if b then v ∷ registersAmong table vs else registersAmong table vs) i)
+    by true e zero l h f =
+        let z : t .registers + 0 ≡ t .registers = omega arith in
+        let n : t .registers < tallied table shapes t v .registers = omega (arith, counted table shapes t v e) in
+        rw z (row-kept table shapes (written log (t .registers * logWidth) (logRow v)) (tallied table shapes t v) (t .registers) vs n (row-written log (t .registers) v (omega (arith, h))))
+    by true e (suc i) l h f =
+        let z : t .registers + suc i ≡ tallied table shapes t v .registers + i = omega (arith, counted table shapes t v e) in
+        rw z (f (written log (t .registers * logWidth) (logRow v)) i (omega (arith, l)) (omega (arith, h, counted table shapes t v e, written-length log (t .registers * logWidth) (logRow v))))
+    by false e i l h f =
+        let z : t .registers + i ≡ tallied table shapes t v .registers + i = omega (arith, counted table shapes t v e) in
+        rw z (f log i l (omega (arith, h, counted table shapes t v e)))
 
-pub logged-logs : (table : List Definition) (log : List ℕ) (vs : List Visit) {after : List ℕ} → length (registersAmong table vs) * logWidth ≤ length log → after ≡ logged table log 0 vs
-    → Logs after (registersAmong table vs)
-logged-logs table log vs h e = rw e (record { each = λ i l. let z : 0 + i ≡ i = omega arith in rw z at (logged-rows table log 0 vs i l (omega (arith, h))) })
+pub logged-logs : (table : List Definition) (shapes : List Shape) (log : List ℕ) (vs : List Visit) {u : Tally} {after : List ℕ} → run table shapes nothingTallied vs ≡ fine u
+    → length (registersAmong table vs) * logWidth ≤ length log → after ≡ logged table shapes log nothingTallied vs → Logs after (registersAmong table vs)
+logged-logs table shapes log vs e h g =
+    rw g (record { each = λ i l. let z : 0 + i ≡ i = omega arith in rw z at (logged-rows table shapes log nothingTallied vs e i l (omega (arith, h))) })
+
+-- a map that keeps 18 is walked over to its end
+pub record RunsOut (table : List Definition) (shapes : List Shape) (t : Tally) (vs : List Visit) : Type 0 where
+  pub tally : Tally
+  pub runs : run table shapes t vs ≡ fine tally
+
+pub few-run : (table : List Definition) (shapes : List Shape) (t : Tally) (vs : List Visit) → tooMany table (t .registers) (t .fields) vs ≡ Sound → RunsOut table shapes t vs
+few-run table shapes t vs e = by (run table shapes t vs) refl
+  where
+    by : (j : Judged Tally) → run table shapes t vs ≡ j → RunsOut table shapes t vs
+    by (fine u) q = record { tally = u; runs = q }
+    by (fault n p) q =
+        let z : Broken n p ≡ Sound = sym (run-many table shapes t vs q) ∙ e in
+        absurd (let w : _≡_ {A = ℕ} 0 1 = cc in omega arith)

@@ -7,6 +7,7 @@ use lib.ListN.{length}
 use Rattle.chars.specs.Choice.{if_then_else_}
 use Rattle.parts.specs.declared.Name.{Name}
 use Rattle.suffixes.specs.Suffixes.{firstOf}
+use Rattle.suffixes.specs.declared.Fault.the-variants.{Sound}
 use Rattle.properties.specs.Judged.{Judged, fine, unless}
 use Rattle.table.specs.Cells.{written}
 use Rattle.table.specs.Definitions.{Definition, definitionOf}
@@ -18,6 +19,10 @@ use Rattle.map.specs.Whole.{isRegisterVisit, tooClose, misplaced}
 use Rattle.rows.specs.Rows.{padded, indexCode}
 use Rattle.walk.specs.declared.Tally.{Tally}
 
+-- nothing counted yet, and no fault
+abbrev pub nothingTallied : Tally
+nothingTallied = record { registers = 0; fields = 0; close = Sound; misplaced = Sound }
+
 -- the counts with an element
 abbrev pub registersWith : List Definition → Tally → Visit → ℕ
 registersWith table t v = if isRegisterVisit table v then suc (t .registers) else t .registers
@@ -25,9 +30,11 @@ registersWith table t v = if isRegisterVisit table v then suc (t .registers) els
 abbrev pub fieldsWith : List Definition → Tally → Visit → ℕ
 fieldsWith table t v = if isRegisterVisit table v then t .fields + length (definitionOf table (v .type) .instances) else t .fields
 
+-- 18: whether an element is too deep, or one register too many, or has fields too many
 unfoldable pub isTooMany : List Definition → Tally → Visit → Bool
 isTooMany table t v = ltb nestLimit (length (v .path)) || (ltb registerLimit (registersWith table t v) || ltb fieldLimit (fieldsWith table t v))
 
+-- the counts and the first faults by 19 and 20 with an element
 unfoldable pub tallied : List Definition → List Shape → Tally → Visit → Tally
 tallied table shapes t v =
     record {
@@ -37,6 +44,7 @@ tallied table shapes t v =
       misplaced = firstOf (t .misplaced) (misplaced table shapes (v ∷ []));
     }
 
+-- a run over elements: 18 at the first that is too many, or the counts and faults of all
 unfoldable pub run : List Definition → List Shape → Tally → List Visit → Judged Tally
 run table shapes t [] = fine t
 run table shapes t (v ∷ vs) = unless (isTooMany table t v) 18 (v .name .start) (run table shapes (tallied table shapes t v) vs)
@@ -49,14 +57,25 @@ unfoldable pub stepCells : List PathStep → List ℕ
 stepCells [] = []
 stepCells (s ∷ path) = stepOf (s .name) (indexCode (s .index)) ++ stepCells path
 
--- a register in the log: its address, cut at the cap, its type, the length of its path, and its path
+-- the cells of a register in the log
 abbrev pub logWidth : ℕ
 logWidth = 27
 
-unfoldable pub logRow : Visit → List ℕ
-logRow v = cut (v .address) ∷ v .type ∷ length (v .path) ∷ padded 24 (stepCells (v .path))
+-- and of a log that holds as many registers as a map may have
+abbrev pub logSize : ℕ
+logSize = registerLimit * logWidth
 
--- the registers of these elements, logged from the row `n` on
-unfoldable pub logged : List Definition → List ℕ → ℕ → List Visit → List ℕ
-logged table log n [] = log
-logged table log n (v ∷ vs) = if isRegisterVisit table v then logged table (written log (n * logWidth) (logRow v)) (suc n) vs else logged table log n vs
+-- a register in the log: its address, cut at the cap, its type, the length of its path, and its path
+unfoldable pub logRow : Visit → List ℕ
+logRow v = cut (v .address .0) ∷ v .type ∷ length (v .path) ∷ padded 24 (stepCells (v .path))
+
+-- the log with an element: a register is written into the row of its number
+abbrev pub loggedOne : List Definition → List ℕ → Tally → Visit → List ℕ
+loggedOne table log t v = if isRegisterVisit table v then written log (t .registers * logWidth) (logRow v) else log
+
+-- the log after a run: the registers of these elements, one a row, up to the element that is too many; 19 and 20 don't end a run
+unfoldable pub logged : List Definition → List Shape → List ℕ → Tally → List Visit → List ℕ
+logged table shapes log t [] = log
+logged table shapes log t (v ∷ vs) =
+    if isTooMany table t v then log else
+    logged table shapes (loggedOne table log t v) (tallied table shapes t v) vs

@@ -12,6 +12,7 @@ use Rattle.suffixes.specs.declared.Fault.{Fault}
 use Rattle.suffixes.specs.declared.Fault.the-variants.{Sound, Broken}
 use Rattle.properties.specs.declared.Given.{Given}
 use Rattle.properties.specs.Judged.{fault, fine}
+use Rattle.components.specs.declared.Offset.{Offset}
 use Rattle.components.specs.declared.Component.{Component}
 use Rattle.components.specs.declared.Component.the-variants as component
 use Rattle.components.specs.declared.Register.{Register}
@@ -20,7 +21,7 @@ use Rattle.table.specs.Definitions.{Child, Definition, definitionOf}
 use Rattle.offsets.specs.Offsets.{cap, cut}
 use Rattle.layout.specs.declared.Shape.{Shape}
 use Rattle.layout.specs.declared.Laid.{Laid}
-use Rattle.layout.specs.Layout.{shapeAt, elements, laidFrom}
+use Rattle.layout.specs.Layout.{bottom, shapeAt, elements, laidFrom, cutOffset}
 use Rattle.shapes.specs.declared.Extent.{Extent}
 use Rattle.shapes.specs.Ready.{known, Ready}
 use Rattle.shapes.specs.Shapes.{ShapesIn, allShapes}
@@ -36,7 +37,7 @@ use Rattle.walk.specs.declared.Surveyed.the-variants as surveyed
 use Rattle.walk.specs.declared.Walked.{Walked}
 use Rattle.walk.specs.declared.Walked.the-variants as walked
 use Rattle.rows.specs.Rows.{padded, indexCode}
-use Rattle.walk.specs.Runs.{stepCells, logWidth, run, logged}
+use Rattle.walk.specs.Runs.{nothingTallied, stepCells, logWidth, run, logged}
 
 -- cells that hold definitions, with their shapes
 pub record Shaped (text t s : List ℕ) (e : Extent) : Type 0 where
@@ -53,10 +54,10 @@ pub record Trails (trail : Trail) (path : List PathStep) : Type 0 where
   pub depth : trail .depth ≡ length path
   pub steps : trail .steps ≡ padded 24 (stepCells path)
 
--- the log and the answer after these elements
+-- the log and the answer after these elements: 18 at one of them, or the counts
 pub data Walks (table : List Definition) (shapes : List Shape) (before after : List ℕ) (t : Tally) (vs : List Visit) : Walked → Type 0 where
-  walks-fault : {p : ℕ} → run table shapes t vs ≡ fault 18 p → Walks table shapes before after t vs (walked.Fault p)
-  walks-on : {u : Tally} → run table shapes t vs ≡ fine u → after ≡ logged table before (t .registers) vs → Walks table shapes before after t vs (walked.On u)
+  walks-fault : {p : ℕ} → run table shapes t vs ≡ fault 18 p → after ≡ logged table shapes before t vs → Walks table shapes before after t vs (walked.Fault p)
+  walks-on : {u : Tally} → run table shapes t vs ≡ fine u → after ≡ logged table shapes before t vs → Walks table shapes before after t vs (walked.On u)
 
 -- a row of a register
 pub data IsRegisterOf : Component → Type 0 where
@@ -70,91 +71,92 @@ unfoldable pub closeFault : Element → Fault
 closeFault x = if x .short then Broken 19 (x .name .start) else Sound
 
 unfoldable pub placeFault : Element → Shape → Fault
-placeFault x s = if not (eqb (x .address % s .access) 0) || ltb addressLimit (x .address + s .size) then Broken 20 (x .name .start) else Sound
+placeFault x s = if not (eqb (x .address .0 % s .access) 0) || ltb addressLimit (x .address .0 + s .size) then Broken 20 (x .name .start) else Sound
 
 -- what `visit_group` answers
 abbrev pub GroupVisited : Tally → Element → Walked → Type 0
 GroupVisited t x r = r ≡ walked.On (record { registers = t .registers; fields = t .fields; close = firstOf (t .close) (closeFault x); misplaced = t .misplaced })
 
 -- an element without its content
-abbrev pub visitOf : Element → List PathStep → Given → ℕ → Visit
+abbrev pub visitOf : Element → List PathStep → Given → Offset → Visit
 visitOf x path index address =
     record { path = path ++ (record { name = x .name; index = index } ∷ []); name = x .name; type = x .row; address = address; short = x .short }
 
 -- what `visit` does, for each path and address that it is asked for; its trail has the element's own step
 pub record VisitWalks (text t before after : List ℕ) (e : Extent) (x : Element) (trail : Trail) (tally : Tally) (r : Walked) : Type 0 where
   pub small : (u : Tally) → r ≡ walked.On u → Small u
-  pub each : (path : List PathStep) (index : Given) (address : ℕ) → Trails trail (path ++ (record { name = x .name; index = index } ∷ [])) → x .address ≡ cut address
+  pub each : (path : List PathStep) (index : Given) (address : Offset) → Trails trail (path ++ (record { name = x .name; index = index } ∷ [])) → x .address ≡ cutOffset address
       → Walks (known text t e) (allShapes text t e) before after tally (visitOf x path index address ∷ []) r
 
 -- what `walk_content` does: the content of a definition at an address
-pub record ContentWalks (text t before after : List ℕ) (e : Extent) (levels row base : ℕ) (trail : Trail) (tally : Tally) (r : Walked) : Type 0 where
+pub record ContentWalks (text t before after : List ℕ) (e : Extent) (levels row : ℕ) (base : Offset) (trail : Trail) (tally : Tally) (r : Walked) : Type 0 where
   pub small : (u : Tally) → r ≡ walked.On u → Small u
-  pub each : (path : List PathStep) (address : ℕ) → Trails trail path → base ≡ cut address
+  pub each : (path : List PathStep) (address : Offset) → Trails trail path → base ≡ cutOffset address
       → Walks (known text t e) (allShapes text t e) before after tally (visitsIn levels (e .mode) (known text t e) (allShapes text t e) row address path) r
 
 -- what `walk_element` does: an element, and its content
 pub record ElementWalks (text t before after : List ℕ) (e : Extent) (levels : ℕ) (x : Element) (trail : Trail) (tally : Tally) (r : Walked) : Type 0 where
   pub small : (u : Tally) → r ≡ walked.On u → Small u
-  pub each : (path : List PathStep) (index : Given) (address : ℕ) → Trails trail path → x .index ≡ indexCode index → x .address ≡ cut address
+  pub each : (path : List PathStep) (index : Given) (address : Offset) → Trails trail path → x .index ≡ indexCode index → x .address ≡ cutOffset address
       → Walks (known text t e) (allShapes text t e) before after tally
       (visitOf x path index address ∷ visitsIn levels (e .mode) (known text t e) (allShapes text t e) (x .row) address (path ++ (record { name = x .name; index = index } ∷ []))) r
 
 -- an instance that is laid in a body at an address
-pub record KidOf (kid : Kid) (c : Child) (s : Shape) (l : Laid) (base : ℕ) : Type 0 where
+pub record KidOf (kid : Kid) (c : Child) (s : Shape) (l : Laid) (base : Offset) : Type 0 where
   pub row : kid .row ≡ c .type
   pub instance : kid .instance ≡ c .instance
-  pub address : kid .address ≡ cut (base + l .start .0)
+  pub address : kid .address .0 ≡ cut (base .0 + l .start .0)
   pub stride : kid .stride ≡ cut (l .stride)
   pub short : kid .short ≡ (isArray (c .instance .array) && ltb (l .stride) (s .size))
 
 -- what `kid_of` answers
-pub record KidMade (type : ℕ) (i : Instance) (s : Shape) (l : Laid) (base : ℕ) (kid : Kid) : Type 0 where
+pub record KidMade (type : ℕ) (i : Instance) (s : Shape) (l : Laid) (base : Offset) (kid : Kid) : Type 0 where
   pub row : kid .row ≡ type
   pub instance : kid .instance ≡ i
-  pub address : kid .address ≡ cut (base + l .start .0)
-  pub low : kid .address ≤ cap
+  pub address : kid .address .0 ≡ cut (base .0 + l .start .0)
+  pub low : kid .address .0 ≤ cap
   pub stride : kid .stride ≡ l .stride
   pub short : kid .short ≡ (isArray (i .array) && ltb (l .stride) (s .size))
 
 -- what `walk_array` is asked for, and what it does: the elements of an instance
 pub record KidFits (e : Extent) (kid : Kid) : Type 0 where
   pub row : kid .row < e .rows
-  pub address : kid .address ≤ cap
+  pub address : kid .address .0 ≤ cap
   pub stride : kid .stride ≤ cap
   pub count : elements (kid .instance .array) ≤ 65536
 
 pub record ArrayWalks (text t before after : List ℕ) (e : Extent) (levels : ℕ) (kid : Kid) (trail : Trail) (tally : Tally) (r : Walked) : Type 0 where
   pub small : (u : Tally) → r ≡ walked.On u → Small u
-  pub each : (path : List PathStep) (c : Child) (l : Laid) (address : ℕ) → Trails trail path → KidOf kid c (shapeAt (allShapes text t e) (c .type)) l address
+  pub each : (path : List PathStep) (c : Child) (l : Laid) (address : Offset) → Trails trail path → KidOf kid c (shapeAt (allShapes text t e) (c .type)) l address
       → Walks (known text t e) (allShapes text t e) before after tally
       (elementVisits (visitsIn levels (e .mode) (known text t e) (allShapes text t e) (c .type)) path c address (shapeAt (allShapes text t e) (c .type)) l 0 (elements (c .instance .array))) r
 
 -- what `walk_children` does: the instances of a row's body, laid one after another
-pub record ChildrenWalk (text t before after : List ℕ) (e : Extent) (levels row : ℕ) (alignment : Given) (base : ℕ) (trail : Trail) (tally : Tally) (r : Walked) : Type 0 where
+pub record ChildrenWalk (text t before after : List ℕ) (e : Extent) (levels row : ℕ) (alignment : Given) (base : Offset) (trail : Trail) (tally : Tally) (r : Walked) : Type 0 where
   pub small : (u : Tally) → r ≡ walked.On u → Small u
-  pub each : (path : List PathStep) (address : ℕ) → Trails trail path → base ≡ cut address
+  pub each : (path : List PathStep) (address : Offset) → Trails trail path → base ≡ cutOffset address
       → Walks (known text t e) (allShapes text t e) before after tally
       (childVisits (visitsIn levels (e .mode) (known text t e) (allShapes text t e)) (allShapes text t e) path address (definitionOf (known text t e) row .instances)
-      (laidFrom (e .mode) alignment (allShapes text t e) (record { 0 = 0 }) (definitionOf (known text t e) row .instances))) r
+      (laidFrom (e .mode) alignment (allShapes text t e) bottom (definitionOf (known text t e) row .instances))) r
+
+-- the elements of the map whose definition is in a row
+abbrev pub elementsOf : List ℕ → List ℕ → Extent → ℕ → List Visit
+elementsOf text t e row = visitsIn (suc nestLimit) (e .mode) (known text t e) (allShapes text t e) row bottom []
 
 -- what `walk_map` does
-abbrev pub nothingTallied : Tally
-nothingTallied = record { registers = 0; fields = 0; close = Sound; misplaced = Sound }
-
 pub record MapWalks (text t before after : List ℕ) (e : Extent) (row : ℕ) (r : Walked) : Type 0 where
   pub walks : Walks (known text t e) (allShapes text t e) before after nothingTallied
-      (visitsIn (suc nestLimit) (e .mode) (known text t e) (allShapes text t e) row 0 []) r
+      (elementsOf text t e row) r
 
 -- a register in a row of the log
 pub record LogRow (log : List ℕ) (i : ℕ) (v : Visit) : Type 0 where
-  pub address : cellOf log (i * logWidth) ≡ cut (v .address)
+  pub address : cellOf log (i * logWidth) ≡ cut (v .address .0)
   pub type : cellOf log (i * logWidth + 1) ≡ v .type
   pub depth : cellOf log (i * logWidth + 2) ≡ length (v .path)
   pub steps : (k : ℕ) → k < 24 → cellOf log (i * logWidth + 3 + k) ≡ cellOf (padded 24 (stepCells (v .path))) k
 
 abbrev pub noVisit : Visit
-noVisit = record { path = []; name = record { start = 0; end = 0 }; type = 0; address = 0; short = false }
+noVisit = record { path = []; name = record { start = 0; end = 0 }; type = 0; address = bottom; short = false }
 
 abbrev pub visitAt : List Visit → ℕ → Visit
 visitAt vs i = getD vs i noVisit
@@ -163,22 +165,24 @@ visitAt vs i = getD vs i noVisit
 pub record Logs (log : List ℕ) (vs : List Visit) : Type 0 where
   pub each : (i : ℕ) → i < length vs → LogRow log i (visitAt vs i)
 
--- the elements of the map whose definition is in a row
-abbrev pub elementsOf : List ℕ → List ℕ → Extent → ℕ → List Visit
-elementsOf text t e row = visitsIn (suc nestLimit) (e .mode) (known text t e) (allShapes text t e) row 0 []
-
--- its registers
+-- the registers of the map whose definition is in a row
 abbrev pub registersOf : List ℕ → List ℕ → Extent → ℕ → List Visit
 registersOf text t e row = registersAmong (known text t e) (elementsOf text t e row)
 
--- what `survey` answers: 18, then 19, then 20
+-- the first fault by 18, then 19, then 20
 abbrev pub surveyFault : List Definition → List Shape → List Visit → Fault
 surveyFault table shapes vs = firstOf (tooMany table 0 0 vs) (firstOf (tooClose vs) (misplaced table shapes vs))
 
-pub data Surveys (text t after : List ℕ) (e : Extent) (row : ℕ) : Surveyed → Type 0 where
-  survey-fault : {n p : ℕ} → surveyFault (known text t e) (allShapes text t e) (elementsOf text t e row) ≡ Broken n p → Surveys text t after e row (surveyed.Fault n p)
-  survey-fine : {registers fields : ℕ} → surveyFault (known text t e) (allShapes text t e) (elementsOf text t e row) ≡ Sound
-      → registers ≡ length (registersOf text t e row) → registers ≤ registerLimit
-      → fields ≡ fieldsAmong (known text t e) (elementsOf text t e row) → fields ≤ fieldLimit
-      → Logs after (registersOf text t e row)
-      → Surveys text t after e row (surveyed.Fine registers fields)
+-- what `survey` answers: this fault, or how many registers and fields there are
+abbrev pub surveyAnswer : Fault → ℕ → ℕ → Surveyed
+surveyAnswer (Broken n p) registers fields = surveyed.Fault n p
+surveyAnswer Sound registers fields = surveyed.Fine registers fields
+
+abbrev pub surveyOf : List ℕ → List ℕ → Extent → ℕ → Surveyed
+surveyOf text t e row =
+    let vs = elementsOf text t e row in
+    surveyAnswer (surveyFault (known text t e) (allShapes text t e) vs) (length (registersOf text t e row)) (fieldsAmong (known text t e) vs)
+
+-- and its log afterwards
+abbrev pub loggedIn : List ℕ → List ℕ → List ℕ → Extent → ℕ → List ℕ
+loggedIn text t log e row = logged (known text t e) (allShapes text t e) log nothingTallied (elementsOf text t e row)

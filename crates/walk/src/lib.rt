@@ -13,14 +13,14 @@ use suffixes::Fault;
 ghost use mathlib.Core.Path.{_≡_};
 ghost use mathlib.Core.List.{_∷_};
 ghost use Prim.Native.Nat.{_+_, _*_, _<_, _≤_};
-ghost use lib.ListN.{length};
 ghost use Rattle.table.specs.Cells.{written};
 ghost use Rattle.offsets.specs.Offsets.{cap};
 ghost use Rattle.shapes.specs.Shapes.{GroupRow};
 ghost use Rattle.map.specs.Visits.{indexIn};
+ghost use Rattle.rows.specs.Limits.{nestLimit, registerLimit};
 ghost use Rattle.rows.specs.Rows.{indexCode};
-ghost use Rattle.walk.specs.Runs.{stepOf};
-ghost use Rattle.walk.specs.Walks.{Shaped, Small, RegisterRow, closeFault, placeFault, GroupVisited, KidMade, MapWalks, Surveys, VisitWalks, ContentWalks, ElementWalks, KidFits, ArrayWalks, ChildrenWalk};
+ghost use Rattle.walk.specs.Runs.{stepOf, logWidth};
+ghost use Rattle.walk.specs.Walks.{Shaped, Small, RegisterRow, closeFault, placeFault, GroupVisited, KidMade, MapWalks, surveyOf, loggedIn, VisitWalks, ContentWalks, ElementWalks, KidFits, ArrayWalks, ChildrenWalk};
 
 // The limits of document 01 for nested instances, registers and fields.
 const NEST_LIMIT: usize = 8;
@@ -52,7 +52,7 @@ pub struct Tally {
 pub struct Kid {
     pub row: usize,
     pub instance: Instance,
-    pub address: u64,
+    pub address: Offset,
     pub stride: u64,
     pub short: bool,
 }
@@ -62,7 +62,7 @@ pub struct Element {
     pub row: usize,
     pub name: Name,
     pub index: u64,
-    pub address: u64,
+    pub address: Offset,
     pub short: bool,
 }
 
@@ -92,7 +92,7 @@ fn index_of(array: Array, k: u64) -> u64
 
 // A path with one more step.
 fn deeper(trail: Trail, name: Name, index: u64) -> Trail
-    requires { ⌜ trail .depth < 8 ⌝ }
+    requires { ⌜ trail .depth < nestLimit ⌝ }
     ensures { λ r. ⌜ (r .depth ≡ trail .depth + 1) × (r .steps ≡ written (trail .steps) (trail .depth * 3) (stepOf name index)) ⌝ }
 {
     let mut steps = trail.steps;
@@ -119,14 +119,14 @@ fn close_fault(element: Element) -> Fault
 
 // 20 for a register that is not on a multiple of its access bytes, or ends above 2^32.
 fn place_fault(element: Element, shape: Shape) -> Fault
-    requires { ⌜ (element .address ≤ cap) × (1 ≤ shape .access) × (shape .size ≤ cap) ⌝ }
+    requires { ⌜ (element .address .0 ≤ cap) × (1 ≤ shape .access) × (shape .size ≤ cap) ⌝ }
     ensures { λ r. ⌜ r ≡ placeFault element shape ⌝ }
 {
     let name = element.name;
-    if element.address % shape.access != 0 {
+    if element.address.0 % shape.access != 0 {
         return Fault::Broken(20, name.start);
     }
-    if 4294967296 < element.address + shape.size {
+    if 4294967296 < element.address.0 + shape.size {
         return Fault::Broken(20, name.start);
     }
     Fault::Sound
@@ -146,11 +146,11 @@ fn log_trail(log: &mut [u64], at: usize, trail: Trail)
 
 // Writes a register into a row of the log.
 fn log_register(log: &mut [u64], number: usize, element: Element, trail: Trail)
-    requires { ⌜ number ≤ 1024 ⌝ }
-    ensures { λ _. ⌜ now (log .exit) ≡ written (now (log .entry)) (number * 27) (element .address ∷ element .row ∷ trail .depth ∷ trail .steps) ⌝ }
+    requires { ⌜ number ≤ registerLimit ⌝ }
+    ensures { λ _. ⌜ now (log .exit) ≡ written (now (log .entry)) (number * logWidth) (element .address .0 ∷ element .row ∷ trail .depth ∷ trail .steps) ⌝ }
 {
     let at = number * LOG_ROW;
-    table::put(log, at, element.address);
+    table::put(log, at, element.address.0);
     table::put(log, at + 1, element.row as u64);
     table::put(log, at + 2, trail.depth as u64);
     log_trail(log, at + 3, trail);
@@ -167,7 +167,7 @@ fn visit_register(
     trail: Trail,
     tally: Tally,
 ) -> Walked
-    requires { ⌜ Shaped (now text) (now cells) (now shapes) extent × (element .row < extent .rows) × (element .address ≤ cap) × Small tally × (trail .depth ≤ 8) × RegisterRow (now cells) (element .row) ⌝ }
+    requires { ⌜ Shaped (now text) (now cells) (now shapes) extent × (element .row < extent .rows) × (element .address .0 ≤ cap) × Small tally × (trail .depth ≤ nestLimit) × RegisterRow (now cells) (element .row) ⌝ }
     ensures { λ r. ⌜ VisitWalks (now (text .entry)) (now (cells .entry)) (now (log .entry)) (now (log .exit)) extent element trail tally r ⌝ }
 {
     let name = element.name;
@@ -216,7 +216,7 @@ fn visit(
     trail: Trail,
     tally: Tally,
 ) -> Walked
-    requires { ⌜ Shaped (now text) (now cells) (now shapes) extent × (element .row < extent .rows) × (element .address ≤ cap) × Small tally × (trail .depth ≤ 8) ⌝ }
+    requires { ⌜ Shaped (now text) (now cells) (now shapes) extent × (element .row < extent .rows) × (element .address .0 ≤ cap) × Small tally × (trail .depth ≤ nestLimit) ⌝ }
     ensures { λ r. ⌜ VisitWalks (now (text .entry)) (now (cells .entry)) (now (log .entry)) (now (log .exit)) extent element trail tally r ⌝ }
 {
     match table::component_at(cells, element.row) {
@@ -238,11 +238,11 @@ fn walk_content(
     extent: Extent,
     levels: usize,
     row: usize,
-    base: u64,
+    base: Offset,
     trail: Trail,
     start: Tally,
 ) -> Walked
-    requires { ⌜ Shaped (now text) (now cells) (now shapes) extent × (row < extent .rows) × (base ≤ cap) × Small start × (trail .depth ≤ 8) ⌝ }
+    requires { ⌜ Shaped (now text) (now cells) (now shapes) extent × (row < extent .rows) × (base .0 ≤ cap) × Small start × (trail .depth ≤ nestLimit) ⌝ }
     ensures { λ r. ⌜ ContentWalks (now (text .entry)) (now (cells .entry)) (now (log .entry)) (now (log .exit)) extent levels row base trail start r ⌝ }
 {
     if levels == 0 {
@@ -281,13 +281,13 @@ fn walk_content(
 }
 
 // An instance that is laid in a body at an address.
-fn kid_of(row: usize, instance: Instance, shape: Shape, laid: Laid, base: u64) -> Kid
-    requires { ⌜ (base ≤ cap) × (laid .start .0 ≤ cap) ⌝ }
+fn kid_of(row: usize, instance: Instance, shape: Shape, laid: Laid, base: Offset) -> Kid
+    requires { ⌜ (base .0 ≤ cap) × (laid .start .0 ≤ cap) ⌝ }
     ensures { λ r. ⌜ KidMade row instance shape laid base r ⌝ }
 {
     let array = instance.array;
     let short = suffixes::is_array(array) && laid.stride < shape.size;
-    let address = offsets::sum(base, laid.start.0);
+    let address = Offset(offsets::sum(base.0, laid.start.0));
     Kid {
         row,
         instance,
@@ -307,11 +307,11 @@ fn walk_children(
     levels: usize,
     row: usize,
     alignment: Given,
-    base: u64,
+    base: Offset,
     trail: Trail,
     start: Tally,
 ) -> Walked
-    requires { ⌜ Shaped (now text) (now cells) (now shapes) extent × (row < extent .rows) × GroupRow (now cells) row alignment × (base ≤ cap) × Small start × (trail .depth ≤ 8) ⌝ }
+    requires { ⌜ Shaped (now text) (now cells) (now shapes) extent × (row < extent .rows) × GroupRow (now cells) row alignment × (base .0 ≤ cap) × Small start × (trail .depth ≤ nestLimit) ⌝ }
     ensures { λ r. ⌜ ChildrenWalk (now (text .entry)) (now (cells .entry)) (now (log .entry)) (now (log .exit)) extent levels row alignment base trail start r ⌝ }
 {
     let span = shapes::instances_of(text, cells, extent, row);
@@ -346,7 +346,7 @@ fn walk_children(
 }
 
 // An element of an instance, at an address.
-fn element_of(kid: Kid, k: u64, address: u64) -> Element
+fn element_of(kid: Kid, k: u64, address: Offset) -> Element
     requires { ⌜ k < 4294967296 ⌝ }
     ensures { λ r. ⌜ r ≡ record { row = kid .row; name = kid .instance .name; index = indexCode (indexIn (kid .instance .array) k); address = address; short = kid .short } ⌝ }
 {
@@ -374,7 +374,7 @@ fn walk_array(
     trail: Trail,
     start: Tally,
 ) -> Walked
-    requires { ⌜ Shaped (now text) (now cells) (now shapes) extent × KidFits extent kid × Small start × (trail .depth ≤ 8) ⌝ }
+    requires { ⌜ Shaped (now text) (now cells) (now shapes) extent × KidFits extent kid × Small start × (trail .depth ≤ nestLimit) ⌝ }
     ensures { λ r. ⌜ ArrayWalks (now (text .entry)) (now (cells .entry)) (now (log .entry)) (now (log .exit)) extent levels kid trail start r ⌝ }
 {
     let instance = kid.instance;
@@ -391,7 +391,7 @@ fn walk_array(
             }
             Walked::On(next) => {
                 tally = next;
-                address = offsets::sum(address, kid.stride);
+                address = Offset(offsets::sum(address.0, kid.stride));
                 k += 1;
             }
         }
@@ -411,10 +411,11 @@ fn walk_element(
     before: Trail,
     start: Tally,
 ) -> Walked
-    requires { ⌜ Shaped (now text) (now cells) (now shapes) extent × (element .row < extent .rows) × (element .address ≤ cap) × Small start × (before .depth ≤ 8) ⌝ }
+    requires { ⌜ Shaped (now text) (now cells) (now shapes) extent × (element .row < extent .rows) × (element .address .0 ≤ cap) × Small start × (before .depth ≤ nestLimit) ⌝ }
     ensures { λ r. ⌜ ElementWalks (now (text .entry)) (now (cells .entry)) (now (log .entry)) (now (log .exit)) extent levels element before start r ⌝ }
 {
     let name = element.name;
+    let address = element.address;
     if before.depth == NEST_LIMIT {
         return Walked::Fault(name.start);
     }
@@ -429,7 +430,7 @@ fn walk_element(
             extent,
             levels,
             element.row,
-            element.address,
+            address,
             trail,
             next,
         ),
@@ -466,13 +467,15 @@ fn walk_map(
         extent,
         NEST_LIMIT + 1,
         row,
-        0,
+        Offset(0),
         trail,
         start,
     )
 }
 
-// The first fault of the map by 18, then 19, then 20; or how many registers and fields it has, and its registers in the log.
+// The first fault of the map by 18, then 19, then 20; or how many registers and fields it has. The log's first rows, as far as it goes,
+// then hold the map's registers in map order: after an 18, which ends the walk, those before the element that is too many; after a 19, a
+// 20 or no fault all of them. Its other cells stay.
 pub fn survey(
     text: &[u8],
     cells: &[u64],
@@ -481,8 +484,9 @@ pub fn survey(
     extent: Extent,
     row: usize,
 ) -> Surveyed
-    requires { ⌜ Shaped (now text) (now cells) (now shapes) extent × (row < extent .rows) × (27648 ≤ length (now log)) ⌝ }
-    ensures { λ r. ⌜ Surveys (now (text .entry)) (now (cells .entry)) (now (log .exit)) extent row r ⌝ }
+    requires { ⌜ Shaped (now text) (now cells) (now shapes) extent × (row < extent .rows) ⌝ }
+    ensures answer { λ r. ⌜ r ≡ surveyOf (now (text .entry)) (now (cells .entry)) extent row ⌝ }
+    ensures logs { λ _. ⌜ now (log .exit) ≡ loggedIn (now (text .entry)) (now (cells .entry)) (now (log .entry)) extent row ⌝ }
 {
     match walk_map(text, cells, shapes, log, extent, row) {
         Walked::Fault(place) => Surveyed::Fault(18, place),

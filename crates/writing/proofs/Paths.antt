@@ -125,7 +125,7 @@ module _ (text log : List ℕ) (i : ℕ) (v : Visit) (r : LogRow log i v) where
   unfolding pathCells
   log-names table title = ap (λ (xs : List ℕ). nameCell title ++ xs) (steps-names text log (i * 27 + 3) 8 (v .path) log-steps) ∙ sym (padded-name title 256 (nameCells (stepsOf text (v .path))) (omega arith))
 
-  pub log-numbers : (t : List ℕ) (table : List Definition) (first : ℕ) {count : ℕ} → cut (v .address) ≡ v .address → componentIn t (v .type) ≡ definitionOf table (v .type) .component
+  pub log-numbers : (t : List ℕ) (table : List Definition) (first : ℕ) {count : ℕ} → cut (v .address .0) ≡ v .address .0 → componentIn t (v .type) ≡ definitionOf table (v .type) .component
       → count ≡ length (entryOf text table v .fields) → numbersIn t log i first count ≡ registerCells first (entryOf text table v)
   unfolding numbersIn registerCells
   log-numbers t table first {count} e c n =
@@ -134,6 +134,6 @@ module _ (text log : List ℕ) (i : ℕ) (v : Visit) (r : LogRow log i v) where
       let fields : ℕ = length (entryOf text table v .fields) in
       ap (λ (x : Register). cellOf log (i * 27) ∷ x .width ∷ x .access ∷ first ∷ count ∷ cellOf log (i * 27 + 2) ∷ indicesIn log (i * 27 + 3) 8) w
       ∙ ap (λ (x : ℕ). x ∷ own .width ∷ own .access ∷ first ∷ count ∷ cellOf log (i * 27 + 2) ∷ indicesIn log (i * 27 + 3) 8) (r .address ∙ e)
-      ∙ ap (λ (x : ℕ). v .address ∷ own .width ∷ own .access ∷ first ∷ x ∷ cellOf log (i * 27 + 2) ∷ indicesIn log (i * 27 + 3) 8) n
-      ∙ ap (λ (x : ℕ). v .address ∷ own .width ∷ own .access ∷ first ∷ fields ∷ x ∷ indicesIn log (i * 27 + 3) 8) (r .depth ∙ sym (steps-length text (v .path)))
-      ∙ ap (λ (xs : List ℕ). v .address ∷ own .width ∷ own .access ∷ first ∷ fields ∷ length (stepsOf text (v .path)) ∷ xs) (steps-indices text log (i * 27 + 3) 8 (v .path) log-steps)
+      ∙ ap (λ (x : ℕ). v .address .0 ∷ own .width ∷ own .access ∷ first ∷ x ∷ cellOf log (i * 27 + 2) ∷ indicesIn log (i * 27 + 3) 8) n
+      ∙ ap (λ (x : ℕ). v .address .0 ∷ own .width ∷ own .access ∷ first ∷ fields ∷ x ∷ indicesIn log (i * 27 + 3) 8) (r .depth ∙ sym (steps-length text (v .path)))
+      ∙ ap (λ (xs : List ℕ). v .address .0 ∷ own .width ∷ own .access ∷ first ∷ fields ∷ length (stepsOf text (v .path)) ∷ xs) (steps-indices text log (i * 27 + 3) 8 (v .path) log-steps)

@@ -22,7 +22,8 @@ use Rattle.table.specs.Definitions.{Child, Definition, definitionOf}
 use Rattle.table.specs.Relation.{Block}
 use Rattle.table.proofs.Laws.{written-length}
 use Rattle.closing.specs.Registers.{placement, bitAbove, firstBit}
-use Rattle.closing.specs.Relation.{topOf, PlacedAs}
+use Rattle.closing.specs.Decoded.{placedAs, topOf}
+use Rattle.closing.proofs.Laws.{placed-top, placed-sound}
 use Rattle.closing.specs.declared.Placed.{Placed}
 use Rattle.closing.specs.declared.Placed.the-variants as placed
 use Rattle.sensible.specs.Sensible.{ChildrenFit}
@@ -203,8 +204,8 @@ module _ (text t : List ℕ) (row : ℕ) {f f1 l l1 : List ℕ} {first to i : �
     pub runs-falls : to - (i + 1) < to - i
     runs-falls = omega (arith, h)
 
-    pub runs-top : {d : Component} {it : Instance} {p : Placed} → PlacedAs d next it p → topOf p < 4294967296
-    runs-top o = omega (arith, s .bits, o .top)
+    pub runs-top : (d : Component) (it : Instance) {p : Placed} → p ≡ placedAs d next it → topOf p < 4294967296
+    runs-top d it o = rw o (omega (arith, s .bits, placed-top d next it))
 
     module _ {x place : ℕ} {y : InstanceReading} (c : x ≡ cellOf t i) (p : place ≡ placeIn x) (r : instanceRead y ≡ instanceAt text place) where
       pub runs-stop : {e : Extent} {q : ℕ} → Ready text t e → row < e .rows → y ≡ instanceReading.Stop q → RunWrites f f1 l l1 first (fieldsIn text t e row) j
@@ -214,7 +215,7 @@ module _ (text t : List ℕ) (row : ℕ) {f f1 l l1 : List ℕ} {first to i : �
           let w : instanceRead y ≡ ok (ahead .child .instance) (ahead .entry .next) = r ∙ (rw (p, c) (ahead .entry .reads)) in
           absurd (let z : _≡_ {A = ℕ} 0 1 = cc in omega arith)
 
-      module _ {it : Instance} {n k : ℕ} {d : Component} {a : Placed} (g : y ≡ instanceReading.Done it n) (o : (k ≡ rowIn x) × (k < 256)) (m : d ≡ componentIn t k) (b : PlacedAs d next it a) where
+      module _ {it : Instance} {n k : ℕ} {d : Component} {a : Placed} (g : y ≡ instanceReading.Done it n) (o : (k ≡ rowIn x) × (k < 256)) (m : d ≡ componentIn t k) (b : a ≡ placedAs d next it) where
         -- the first of the instances that are left, as a field
         module _ (e : Extent) (ready : Ready text t e) (low : row < e .rows) where
           at-run : Running text t e row f f1 l l1 first to i next j
@@ -245,14 +246,14 @@ module _ (text t : List ℕ) (row : ℕ) {f f1 l l1 : List ℕ} {first to i : �
               ∙ ap (λ (q : Component). instanceFault (kindOf q) (ahead-run .child .instance)) (sym z) ∙ ahead-run .fits .sound
 
           run-placed : a ≡ placement (definitionOf (known text t e) (ahead-run .child .type) .component) next (ahead-run .child .instance)
-          run-placed = b .each run-sound ∙ ap (λ (q : Component). placement q next it) run-component ∙ ap (placement (definitionOf (known text t e) (ahead-run .child .type) .component) next) run-instance
+          run-placed = b ∙ placed-sound d next it run-sound ∙ ap (λ (q : Component). placement q next it) run-component ∙ ap (placement (definitionOf (known text t e) (ahead-run .child .type) .component) next) run-instance
 
         pub runs-next : {f2 l2 : List ℕ} {j1 : ℕ} {up : BitPlace} → RunWrites f1 f2 l1 l2 j (withField (bytesIn text (it .name)) a []) j1 → up ≡ bitAbove a next
             → Runs text t row f f2 l l2 first to (i + 1) up j1
         runs-next {f2} {l2} {j1} {up} w z =
             record {
               high = s .high;
-              bits = let q = above-low a next (b .top) in let v : up .0 ≡ bitAbove a next .0 = ap (λ (b : BitPlace). b .0) z in omega (arith, q, v, s .bits, h);
+              bits = let q = above-low a next (rw b (placed-top d next it)) in let v : up .0 ≡ bitAbove a next .0 = ap (λ (b : BitPlace). b .0) z in omega (arith, q, v, s .bits, h);
               few = omega (arith, w .next, with-few (bytesIn text (it .name)) a, s .few, h);
               fields = run-fields w ∙ s .fields;
               labels = run-labels w ∙ s .labels;

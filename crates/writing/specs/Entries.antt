@@ -47,7 +47,7 @@ entryOf text table v =
     let d = definitionOf table (v .type) in
     record {
       path = stepsOf text (v .path);
-      address = record { 0 = v .address };
+      address = v .address;
       register = widthsOf (d .component);
       fields = rowFields text table firstBit (d .instances);
     }

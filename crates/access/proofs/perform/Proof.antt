@@ -1,6 +1,6 @@
 use borrow.Author.Needs.{needs}
 use native.Mathlib.Omega.{arith}
-use Rattle.access.proofs.Answers.{refused-answer, refused-store, answered-asks, answered-word, answered-store}
+use Rattle.access.proofs.Answers.{refused-answer, refused-store, answered-asks, answered-word, answered-store, access-told}
 use Rattle.access.proofs.perform.Statement.{statement}
 use Rattle.access.proofs.perform.Tie as tie
 
@@ -10,8 +10,8 @@ perform-spec =
     (tie.spec
     (λ c κs. search needs)
     (λ c. search needs)
-    (λ c. (refused-answer _ _ _ _ (c .before .first-refusal .ensures) (λ z. omega arith), refused-store _ _ _ _ (c .before .first-refusal .ensures) (λ z. omega arith)))
+    (λ c. access-told _ _ _ (refused-answer _ _ _ _ (c .before .first-refusal .ensures) (λ z. omega arith)) (refused-store _ _ _ _ (c .before .first-refusal .ensures) (λ z. omega arith)))
     (λ c κs. answered-asks _ _ _ _ _ _ (c .before .before .first-refusal .ensures) (omega arith))
     (λ c κs. answered-asks _ _ _ _ _ _ (c .before .before .before .before .first-refusal .ensures) (omega arith))
     (λ c. search needs)
-    (λ c. search (answered-word, answered-store)))
+    (λ c. access-told _ _ _ (search answered-word) (search answered-store)))

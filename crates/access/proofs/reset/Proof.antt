@@ -1,5 +1,5 @@
 use borrow.Author.Needs.{needs}
-use Rattle.access.proofs.Answers.{few-fields, unlawful-answer, unlawful-store, short-answer, short-store, reset-answer, reset-store}
+use Rattle.access.proofs.Answers.{few-fields, unlawful-answer, unlawful-store, short-answer, short-store, reset-answer, reset-store, reset-told}
 use Rattle.access.proofs.reset.Statement.{statement}
 use Rattle.access.proofs.reset.Tie as tie
 
@@ -8,8 +8,8 @@ reset-spec =
     tie.close
     (tie.spec
     (λ c κs. search needs)
-    (λ c. search (unlawful-answer, unlawful-store))
-    (λ c. search (short-answer, short-store))
+    (λ c. reset-told _ _ (search unlawful-answer) (search unlawful-store))
+    (λ c. reset-told _ _ (search short-answer) (search short-store))
     (λ c κs. search (needs, few-fields))
     (λ c. search needs)
-    (λ c. search (reset-answer, reset-store)))
+    (λ c. reset-told _ _ (search reset-answer) (search reset-store)))

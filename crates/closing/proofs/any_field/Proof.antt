@@ -1,4 +1,4 @@
--- For all instances that stand there, some field of those left to look at breaks the rule exactly when one of all does.
+-- Some field of the cells left to look at breaks the rule exactly when one of all does.
 use borrow.Author.Needs.{needs}
 use Prim.Native.Nat.{_-_}
 use Rattle.closing.proofs.Laws.{Asking, ask-start, next-fits, top-fits, find-here, find-on, find-end}

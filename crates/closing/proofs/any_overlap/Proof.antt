@@ -1,4 +1,4 @@
--- For all instances that stand there, no fields of those passed overlap.
+-- No fields of the cells passed overlap.
 use borrow.Author.Needs.{needs}
 use Prim.Native.Nat.{_-_}
 use Rattle.closing.proofs.Laws.{Passing, pass-start, pass-fits, pass-top, overlap-here, overlap-on, overlap-end}

@@ -1,10 +1,8 @@
 use borrow.Author.Needs.{needs}
-use Rattle.closing.specs.Registers.{closingFault}
 use Rattle.closing.proofs.field_closing.Statement.{statement}
 use Rattle.closing.proofs.field_closing.Tie as tie
 
 pub field-closing-spec : {M : Type 1} → statement M
-unfolding closingFault
 field-closing-spec =
     tie.close
     (tie.spec

@@ -1,10 +1,7 @@
 use borrow.Author.Needs.{needs}
-use native.Mathlib.Omega.{arith}
-use Rattle.compile.proofs.Stages.{compiled-fault, compiled-map, filed-map, refused-answer, refused-lent}
+use Rattle.compile.proofs.Stages.{compiled-fault, compiled-map, filed-map, refused-answer, refused-lent, compiled-told}
 use Rattle.compile.specs.Compiled.{answered, lentAfter}
-use mathlib.Core.Path.{_∙_, sym, ap, subst}
-use Prim.Native.Nat.{ℕ}
-use lib.ListN.{length-replicate}
+use mathlib.Core.Path.{_∙_, sym, ap}
 use Rattle.compile.proofs.compile.Statement.{statement}
 use Rattle.compile.proofs.compile.Tie as tie
 
@@ -18,10 +15,23 @@ compile-spec =
     (λ c κs. search needs)
     (λ c. search needs)
     (λ c. search needs)
-    (λ c κs. filed-map _ _ (omega (arith, length-replicate {A = ℕ} 69632 0)) _ (c .before .before .before .before .before .before .before .before .before .define .ensures .0) (c .before .before .before .before .before .before .row .given .1) (c .before .before .before .before .before .before .before .before .before .define .ensures .1))
-    (λ c. (let z = compiled-fault _ _ (omega (arith, length-replicate {A = ℕ} 69632 0)) _ (c .before .before .before .before .before .define .ensures .0) (c .before .before .number .given .1) in (refused-answer _ z (c .refuse .ensures), refused-lent _ z)))
+    -- compile-map-requires
+    (λ c κs.
+    let told = c .before .before .before .before .before .before in
+    let defined = told .before .before .before in
+    filed-map _ _ _ (defined .define .ensures .0) (told .row .given .1) (defined .define .ensures .1 .held))
+    -- returns: a refusal by words, sentences or rules
+    (λ c.
+    let told = c .before .before in
+    let z = compiled-fault _ _ _ (told .before .before .before .define .ensures .0) (told .number .given .1) in
+    compiled-told _ _ (refused-answer _ z (c .refuse .ensures)) (refused-lent _ z))
     (λ c. search needs)
     (λ c. search needs)
     (λ c. search needs)
     (λ c. search needs)
-    (λ c. (let z = sym (compiled-map _ _ (omega (arith, length-replicate {A = ℕ} 69632 0)) _ (c .before .before .before .before .before .before .before .before .before .before .before .before .before .before .before .before .before .before .define .ensures .0) (c .before .before .before .before .before .before .before .before .before .before .before .before .before .before .before .row .given .1)) in (c .before .before .before .before .before .before .before .before .compile-map .ensures .0 ∙ ap (answered _) z, c .before .before .before .before .before .before .before .before .compile-map .ensures .1 ∙ ap (lentAfter _) z))))
+    -- returns-2: the map's answer
+    (λ c.
+    let judged = c .before .before .before .before .before .before .before .before in
+    let told = judged .before .before .before .before .before .before .before in
+    let z = sym (compiled-map _ _ _ (told .before .before .before .define .ensures .0) (told .row .given .1)) in
+    compiled-told _ _ (judged .compile-map .ensures .0 ∙ ap (answered _) z) (judged .compile-map .ensures .1 ∙ ap (lentAfter _) z)))

@@ -16,13 +16,25 @@ compile-map-spec =
     (λ c κs. search needs)
     (λ c. search needs)
     (λ c. search needs)
-    (λ c κs. (filed-in _ _ _ _ _ (c .before .before .before .before .before .before .before .before .before .before .pre) (c .before .before .before .component-at .ensures) (c .before .before .mode-of .ensures), omega (arith, length-replicate {A = ℕ} 512 0), omega (arith, length-replicate {A = ℕ} 27648 0)))
+    -- judge-map-requires
+    (λ c κs.
+    let mode = c .before .before in
+    let component = mode .before in
+    let begun = component .before .before .before .before .before .before .before in
+    (filed-in _ _ _ _ (begun .pre) (component .component-at .ensures) (mode .mode-of .ensures), omega (arith, length-replicate {A = ℕ} 512 0), omega (arith, length-replicate {A = ℕ} 27648 0)))
     (λ c. search needs)
     (λ c κs. search needs)
     (λ c. search needs)
     (λ c. search needs)
     (λ c. search needs)
-    (λ c κs. (filed-in _ _ _ _ _ (c .before .before .before .before .before .before .before .before .before .before .before .before .before .before .before .before .before .before .before .before .before .before .pre) (c .before .before .before .before .before .before .before .before .before .before .before .before .before .before .before .component-at .ensures) (c .before .before .before .before .before .before .before .before .before .before .before .before .before .before .mode-of .ensures), subst (Charts _ _ _ _ _ _) (c .before .before .before .before .before .before .before .count .given .1) (c .before .before .before .before .before .before .before .before .before .before .before .judge-map .ensures)))
+    -- write-map-requires
+    (λ c κs.
+    let told = c .before .before .before .before .before .before .before in
+    let judged = told .before .before .before .before in
+    let mode = judged .before .before .before in
+    let component = mode .before in
+    let begun = component .before .before .before .before .before .before .before in
+    (filed-in _ _ _ _ (begun .pre) (component .component-at .ensures) (mode .mode-of .ensures), subst (Charts _ _ _ _ _ _) (told .count .given .1) (judged .judge-map .ensures)))
     (λ c. (let z = chart-refused (subst (Charts _ _ _ _ _ _) (c .before .before .number .given .1) (c .before .before .before .before .before .before .judge-map .ensures)) in (refused-answer _ z (c .refuse .ensures), refused-lent _ z)))
     (λ c. search needs)
     (λ c. search needs)

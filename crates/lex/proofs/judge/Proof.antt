@@ -16,7 +16,7 @@ judge-spec =
     (λ c. search needs)
     (λ c. search needs)
     (λ c. rw (c .enum-told .given .1))
-    (λ c. rw (c .before .before .before .word .given .1, c .refuse .ensures, c .before .cause-number .ensures))
+    (λ c. rw (c .before .before .before .word .given .1, c .refuse .ensures .0, c .before .cause-number .ensures))
     (λ c. search needs)
     (λ c. search needs)
     (λ c. search needs)

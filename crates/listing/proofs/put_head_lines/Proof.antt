@@ -21,5 +21,5 @@ put-head-lines-spec =
     let p3 = p4 .before .before .before .before .before in
     let p2 = p3 .before .before .before .before .before in
     let p1 = p2 .before .before .before .before in
-    let p0 = p1 .before .before in
+    let p0 = p1 .before .before .before in
     head-pours _ _ _ (p0 .register-row .ensures) (p1 .put-path-line .ensures) (p2 .put-address-line .ensures) (p3 .put-decimal-line .ensures) (p4 .put-decimal-line2 .ensures)))

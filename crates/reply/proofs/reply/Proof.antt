@@ -16,56 +16,56 @@ mul-write-listing c =
     let m = c .before in
     let k = m .before .before .before .before .before .before .compile in
     let l = k .last .1 in
-    record { fits = (accepted-holds _ _ large (k .ensures .0) (tables (l .0) (l .1 .0) (l .1 .1 .0) (l .1 .1 .1 .0)) (k .ensures .1) (m .count .given .1)) .few-numbers }
+    record { fits = (accepted-holds _ _ large (k .ensures .0) (tables (l .0) (l .1 .0) (l .1 .1 .0) (l .1 .1 .1 .0)) (k .ensures .1 .0) (m .count .given .1)) .few-numbers }
 
 part-write-listing-end : tie.Need-part-write-listing-end
 part-write-listing-end c =
     let m = c .before .before in
     let k = m .before .before .before .before .before .before .compile in
     let l = k .last .1 in
-    (accepted-holds _ _ large (k .ensures .0) (tables (l .0) (l .1 .0) (l .1 .1 .0) (l .1 .1 .1 .0)) (k .ensures .1) (m .count .given .1)) .registers-fit
+    (accepted-holds _ _ large (k .ensures .0) (tables (l .0) (l .1 .0) (l .1 .1 .0) (l .1 .1 .1 .0)) (k .ensures .1 .0) (m .count .given .1)) .registers-fit
 
 mul-write-listing-2 : tie.Need-mul-write-listing-2
 mul-write-listing-2 c =
     let m = c .before .before .before in
     let k = m .before .before .before .before .before .before .compile in
     let l = k .last .1 in
-    record { fits = (accepted-holds _ _ large (k .ensures .0) (tables (l .0) (l .1 .0) (l .1 .1 .0) (l .1 .1 .1 .0)) (k .ensures .1) (m .count .given .1)) .few-paths }
+    record { fits = (accepted-holds _ _ large (k .ensures .0) (tables (l .0) (l .1 .0) (l .1 .1 .0) (l .1 .1 .1 .0)) (k .ensures .1 .0) (m .count .given .1)) .few-paths }
 
 part-write-listing-end-2 : tie.Need-part-write-listing-end-2
 part-write-listing-end-2 c =
     let m = c .before .before .before .before in
     let k = m .before .before .before .before .before .before .compile in
     let l = k .last .1 in
-    (accepted-holds _ _ large (k .ensures .0) (tables (l .0) (l .1 .0) (l .1 .1 .0) (l .1 .1 .1 .0)) (k .ensures .1) (m .count .given .1)) .paths-fit
+    (accepted-holds _ _ large (k .ensures .0) (tables (l .0) (l .1 .0) (l .1 .1 .0) (l .1 .1 .1 .0)) (k .ensures .1 .0) (m .count .given .1)) .paths-fit
 
 mul-write-listing-3 : tie.Need-mul-write-listing-3
 mul-write-listing-3 c =
     let m = c .before .before .before .before .before in
     let k = m .before .before .before .before .before .before .compile in
     let l = k .last .1 in
-    record { fits = (accepted-holds _ _ large (k .ensures .0) (tables (l .0) (l .1 .0) (l .1 .1 .0) (l .1 .1 .1 .0)) (k .ensures .1) (m .count .given .1)) .few-fields }
+    record { fits = (accepted-holds _ _ large (k .ensures .0) (tables (l .0) (l .1 .0) (l .1 .1 .0) (l .1 .1 .1 .0)) (k .ensures .1 .0) (m .count .given .1)) .few-fields }
 
 part-write-listing-end-3 : tie.Need-part-write-listing-end-3
 part-write-listing-end-3 c =
     let m = c .before .before .before .before .before .before in
     let k = m .before .before .before .before .before .before .compile in
     let l = k .last .1 in
-    (accepted-holds _ _ large (k .ensures .0) (tables (l .0) (l .1 .0) (l .1 .1 .0) (l .1 .1 .1 .0)) (k .ensures .1) (m .count .given .1)) .fields-fit
+    (accepted-holds _ _ large (k .ensures .0) (tables (l .0) (l .1 .0) (l .1 .1 .0) (l .1 .1 .1 .0)) (k .ensures .1 .0) (m .count .given .1)) .fields-fit
 
 mul-write-listing-4 : tie.Need-mul-write-listing-4
 mul-write-listing-4 c =
     let m = c .before .before .before .before .before .before .before in
     let k = m .before .before .before .before .before .before .compile in
     let l = k .last .1 in
-    record { fits = (accepted-holds _ _ large (k .ensures .0) (tables (l .0) (l .1 .0) (l .1 .1 .0) (l .1 .1 .1 .0)) (k .ensures .1) (m .count .given .1)) .few-labels }
+    record { fits = (accepted-holds _ _ large (k .ensures .0) (tables (l .0) (l .1 .0) (l .1 .1 .0) (l .1 .1 .1 .0)) (k .ensures .1 .0) (m .count .given .1)) .few-labels }
 
 part-write-listing-end-4 : tie.Need-part-write-listing-end-4
 part-write-listing-end-4 c =
     let m = c .before .before .before .before .before .before .before .before in
     let k = m .before .before .before .before .before .before .compile in
     let l = k .last .1 in
-    (accepted-holds _ _ large (k .ensures .0) (tables (l .0) (l .1 .0) (l .1 .1 .0) (l .1 .1 .1 .0)) (k .ensures .1) (m .count .given .1)) .labels-fit
+    (accepted-holds _ _ large (k .ensures .0) (tables (l .0) (l .1 .0) (l .1 .1 .0) (l .1 .1 .1 .0)) (k .ensures .1 .0) (m .count .given .1)) .labels-fit
 
 -- the answers
 returns : tie.Need-returns
@@ -78,7 +78,7 @@ returns-2 c =
     let m = w .before .before .before .before .before .before .before .before .before .before .before in
     let k = m .before .before .before .before .before .before .compile in
     let l = k .last .1 in
-    reply-accepted (accepted-holds _ _ large (k .ensures .0) (tables (l .0) (l .1 .0) (l .1 .1 .0) (l .1 .1 .1 .0)) (k .ensures .1) (m .count .given .1)) (w .write-listing .ensures)
+    reply-accepted (accepted-holds _ _ large (k .ensures .0) (tables (l .0) (l .1 .0) (l .1 .1 .0) (l .1 .1 .1 .0)) (k .ensures .1 .0) (m .count .given .1)) (w .write-listing .ensures)
 
 pub reply-spec : {M : Type 1} → statement M
 reply-spec =

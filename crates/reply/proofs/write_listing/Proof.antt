@@ -17,6 +17,6 @@ write-listing-spec =
     let w = c .before .before in
     let m = w .before .before .before in
     let l = m .before .before .before .before in
-    listing-refused _ _ (l .list .ensures .0) (l .list .ensures .1) (m .number .given .1) (w .write-refusal .ensures))
+    listing-refused _ _ (l .list .ensures .0) (l .list .ensures .1 .1) (m .number .given .1) (w .write-refusal .ensures))
     (λ c. search needs)
-    (λ c. listing-written _ _ (c .before .before .before .before .before .list .ensures .0) (c .before .before .before .before .before .list .ensures .1) (c .before .count .given .1)))
+    (λ c. listing-written _ _ (c .before .before .before .before .before .list .ensures .0) (c .before .before .before .before .before .list .ensures .1 .1) (c .before .count .given .1)))

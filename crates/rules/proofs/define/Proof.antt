@@ -1,9 +1,8 @@
+-- `define` meets its contract: words and sentences refuse and leave the cells alone; then the rules fill them. Behind each stage stand its
+-- answer, and that it accepts.
 use borrow.Author.Needs.{needs}
-use native.Mathlib.Omega.{arith}
 use mathlib.Core.List.{[]}
-use mathlib.Core.Path.{_∙_}
-use Rattle.rules.proofs.Rulings.{words-short, ruled-few, ruled-enough, ruled-words, ruled-sentences, ruled-rules, held-rules}
-use Rattle.rules.specs.Rules.{held-not}
+use Rattle.rules.proofs.Rulings.{words-short, ruled-words, ruled-sentences, worked-untouched, rules-done}
 use Rattle.rules.proofs.define.Statement.{statement}
 use Rattle.rules.proofs.define.Tie as tie
 
@@ -11,15 +10,29 @@ pub define-spec : {M : Type 1} → statement M
 define-spec =
     tie.close
     (tie.spec
-    (λ c. (ruled-few _ _ (c .if1 .taken), held-not))
     (λ c κs. search needs)
     (λ c. search needs)
     (λ c. search needs)
     (λ c κs. search needs)
     (λ c. search needs)
     (λ c. search needs)
-    (λ c κs. words-short _ (c .before .before .before .before .before .before .first-refusal .ensures) (c .before .before .before .before .enum-told .given .1))
-    (λ c. (ruled-words _ [] (c .before .before .before .first-refusal .ensures) (c .before .number .given .1) ∙ ruled-enough _ _ (c .before .before .before .before .if1 .left), held-not))
-    (λ c. (ruled-sentences _ [] (c .before .before .before .before .before .before .first-refusal .ensures) (c .before .before .before .before .enum-told .given .1) (c .before .before .before .first-refusal2 .ensures) (c .before .number2 .given .1) ∙ ruled-enough _ _ (c .before .before .before .before .before .before .before .if1 .left), held-not))
+    -- judge-file-requires
+    (λ c κs.
+    let fine-words = c .before .before .before .before in
+    words-short _ (fine-words .before .before .first-refusal .ensures .0) (fine-words .enum-told .given .1))
+    -- returns: words refuse
+    (λ c. (ruled-words _ [] (c .before .before .before .first-refusal .ensures .0) (c .before .number .given .1), worked-untouched _ _))
+    -- returns-2: sentences refuse
+    (λ c.
+    let sentences = c .before .before .before in
+    let fine-words = sentences .before in
+    (ruled-sentences _ [] (fine-words .before .before .first-refusal .ensures .0) (fine-words .enum-told .given .1) (sentences .first-refusal2 .ensures .0) (c .before .number2 .given .1), worked-untouched _ _))
     (λ c. search needs)
-    (λ c. (ruled-rules _ _ (c .before .before .before .before .before .before .before .before .before .first-refusal .ensures) (c .before .before .before .before .before .before .before .enum-told .given .1) (c .before .before .before .before .before .before .first-refusal2 .ensures) (c .before .before .before .before .enum-told2 .given .1) (c .before .before .before .before .before .before .before .before .before .before .if1 .left) (c .before .before .judge-file .ensures) ∙ ruled-enough _ _ (c .before .before .before .before .before .before .before .before .before .before .if1 .left), held-rules _ _ (c .before .before .before .before .before .before .before .enum-told .given .1) (c .before .before .before .before .before .before .before .before .before .first-refusal .ensures) (c .before .before .before .before .before .before .first-refusal2 .ensures) (c .before .before .before .before .enum-told2 .given .1) (c .before .before .before .before .before .before .before .before .before .before .if1 .left) (c .before .before .judge-file .ensures))))
+    -- returns-3: the rules
+    (λ c.
+    let rules = c .before .before in
+    let fine-sentences = rules .before .before in
+    let sentences = fine-sentences .before .before in
+    let fine-words = sentences .before in
+    let words = fine-words .before .before in
+    rules-done _ _ (words .first-refusal .ensures .0) (fine-words .enum-told .given .1) (sentences .first-refusal2 .ensures .0) (fine-sentences .enum-told2 .given .1) (words .before .before .before .pre) (rules .judge-file .ensures)))

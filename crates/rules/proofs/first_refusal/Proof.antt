@@ -1,7 +1,4 @@
 use borrow.Author.Needs.{needs}
-use native.Mathlib.Omega.{arith}
-use Prim.Native.Nat.{ℕ}
-use lib.ListN.{length-replicate}
 use Rattle.rules.proofs.Rulings.{verdict-ruled}
 use Rattle.rules.proofs.first_refusal.Statement.{statement}
 use Rattle.rules.proofs.first_refusal.Tie as tie
@@ -13,4 +10,6 @@ first-refusal-spec =
     (λ c. search needs)
     (λ c κs. search needs)
     (λ c κs. search needs)
-    (λ c. verdict-ruled _ (c .before .before .define .last .1 .0) _ (c .before .before .define .result) (omega (arith, length-replicate {A = ℕ} 69632 0)) (c .before .before .define .ensures .0) (c .verdict-of .ensures)))
+    (λ c.
+    let defined = c .before .before .define in
+    verdict-ruled _ (defined .last .1 .0) (defined .result) (defined .ensures .0) (c .verdict-of .ensures .0)))

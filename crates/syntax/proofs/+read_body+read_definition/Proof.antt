@@ -25,6 +25,7 @@ use Rattle.syntax.specs.Grammar.{elementsAt, definitionAt, bodyAt}
 use Rattle.syntax.specs.Answers.{answerOf}
 use Rattle.syntax.proofs.Rest.{Rest}
 use Rattle.syntax.proofs.Ends.{definition-ends}
+use Rattle.syntax.proofs.Numbers.{with-numbers}
 use Rattle.syntax.proofs.Turns.{element-definition, element-statement, body-close, body-stop, body-past, body-more, definition-header, definition-deep, definition-body, definition-tail}
 
 abbrev μ-read-body : Measures 1 read-body-kinds.ps ℕ
@@ -80,21 +81,21 @@ pub +read-body+read-definition-spec : {M : Type 1} → statement M
     let a = c .before .before .before .before .before .before .before .before .before .before .before .args in
     let k = c .before .before .before .before .before .before .before .before .next-token .ensures in
     let which = element-definition (definitionAt (a .bodies) (a .text .now)) _ (l .at) k (c .before .before .before .before .before .is-kind .ensures) (c .before .before .before .before .if2 .taken) in
-    let p = body-past _ _ (l .at) (l .inv) k (c .before .before .before .before .before .before .before .is-mark .ensures) (c .before .before .before .before .before .before .if1 .left) which (c .before .before .before .read-definition .ensures) (definition-ends _ _) (c .before .next .given .1) in
+    let p = body-past _ _ (l .at) (l .inv) k (c .before .before .before .before .before .before .before .is-mark .ensures) (c .before .before .before .before .before .before .if1 .left) which (c .before .before .before .read-definition .ensures .0) (definition-ends _ _) (c .before .next .given .1) in
     omega arith)  -- loop-less
     (λ c.
     let l = c .before .before .before .before .before .before .before .before .before .loop in
     let a = c .before .before .before .before .before .before .before .before .before .before .before .args in
     let k = c .before .before .before .before .before .before .before .before .next-token .ensures in
     let which = element-definition (definitionAt (a .bodies) (a .text .now)) _ (l .at) k (c .before .before .before .before .before .is-kind .ensures) (c .before .before .before .before .if2 .taken) in
-    body-more _ _ (l .at) (l .inv) k (c .before .before .before .before .before .before .before .is-mark .ensures) (c .before .before .before .before .before .before .if1 .left) which (c .before .before .before .read-definition .ensures) (definition-ends _ _) (c .before .next .given .1))  -- loop-again
+    body-more _ _ (l .at) (l .inv) k (c .before .before .before .before .before .before .before .is-mark .ensures) (c .before .before .before .before .before .before .if1 .left) which (c .before .before .before .read-definition .ensures .0) (definition-ends _ _) (c .before .next .given .1))  -- loop-again
     (λ c. search needs)  -- enum-known-number
     (λ c.
     let l = c .before .before .before .before .before .before .before .before .before .loop in
     let a = c .before .before .before .before .before .before .before .before .before .before .before .args in
     let k = c .before .before .before .before .before .before .before .before .next-token .ensures in
     let which = element-definition (definitionAt (a .bodies) (a .text .now)) _ (l .at) k (c .before .before .before .before .before .is-kind .ensures) (c .before .before .before .before .if2 .taken) in
-    body-stop _ _ (l .at) (l .inv) k (c .before .before .before .before .before .before .before .is-mark .ensures) (c .before .before .before .before .before .before .if1 .left) which (c .before .before .before .read-definition .ensures) (c .before .number .given .1))  -- returns-2
+    body-stop _ _ (l .at) (l .inv) k (c .before .before .before .before .before .before .before .is-mark .ensures) (c .before .before .before .before .before .before .if1 .left) which (c .before .before .before .read-definition .ensures .0) (c .before .number .given .1))  -- returns-2
     (λ c κs. search needs)  -- read-statement-requires
     (λ c. search needs)  -- enum-known-next-2
     (λ c.
@@ -121,13 +122,13 @@ pub +read-body+read-definition-spec : {M : Type 1} → statement M
     (λ c κs. search needs)  -- read-header-requires
     (λ c. search needs)  -- enum-known-place
     (λ c. search needs)  -- enum-known-header
-    (λ c. definition-deep _ _ (c .before .before .before .before .read-header .ensures) (c .before .before .header .given .1) (c .if1 .taken))  -- returns
+    (λ c. with-numbers _ (definition-deep _ _ (c .before .before .before .before .read-header .ensures) (c .before .before .header .given .1) (c .if1 .taken)))  -- returns
     (λ c. search needs)  -- sub-read-body
     (λ c κs. (omega arith, tt))  -- read-body-requires
     (λ c. search needs)  -- enum-known-number
     (λ c. search needs)  -- enum-known-next
     (λ c κs. search needs)  -- is-named-requires
     (λ c κs. search needs)  -- read-tail-requires
-    (λ c. definition-header _ _ (c .before .before .before .read-header .ensures) _ (c .before .place .given .1))  -- returns-2
-    (λ c. definition-body _ _ (c .before .before .before .before .before .before .before .before .read-header .ensures) (c .before .before .before .before .before .before .header .given .1) (c .before .before .before .before .if1 .left) (c .before .before .before .read-body .ensures) (c .before .number .given .1))  -- returns-3
-    (λ c. definition-tail _ _ (c .before .before .before .before .before .before .before .before .before .before .read-header .ensures) (c .before .before .before .before .before .before .before .before .header .given .1) (c .before .before .before .before .before .before .if1 .left) (c .before .before .before .before .before .read-body .ensures) (c .before .before .before .next .given .1) (c .before .is-named .ensures) (c .read-tail .ensures))  -- returns-4
+    (λ c. with-numbers _ (definition-header _ _ (c .before .before .before .read-header .ensures) _ (c .before .place .given .1)))  -- returns-2
+    (λ c. with-numbers _ (definition-body _ _ (c .before .before .before .before .before .before .before .before .read-header .ensures) (c .before .before .before .before .before .before .header .given .1) (c .before .before .before .before .if1 .left) (c .before .before .before .read-body .ensures) (c .before .number .given .1)))  -- returns-3
+    (λ c. with-numbers _ (definition-tail _ _ (c .before .before .before .before .before .before .before .before .before .before .read-header .ensures) (c .before .before .before .before .before .before .before .before .header .given .1) (c .before .before .before .before .before .before .if1 .left) (c .before .before .before .before .before .read-body .ensures) (c .before .before .before .next .given .1) (c .before .is-named .ensures) (c .read-tail .ensures)))  -- returns-4

@@ -7,6 +7,7 @@ use borrow.Author.Needs.{needs}
 use Rattle.syntax.specs.Grammar.{definitionsFrom, fileAt}
 use Rattle.syntax.specs.Answers.{answerOf}
 use Rattle.syntax.proofs.Rest.{Rest}
+use Rattle.syntax.proofs.Numbers.{with-numbers}
 use Rattle.syntax.proofs.Turns.{file-close, file-stop, file-past, file-more}
 use Rattle.syntax.proofs.read_file.Statement.{statement}
 use Rattle.syntax.proofs.read_file.Tie as tie
@@ -24,26 +25,26 @@ loop-holds c = record { turns = length (c .before .args .text .now); enough = om
 returns : tie.Need-returns Inv-loop μ-loop
 returns c =
     let l = c .before .before .before .loop in
-    file-close _ (l .at) (l .inv) (c .before .before .next-token .ensures) (c .before .is-end .ensures) (c .if1 .taken)
+    with-numbers _ (file-close _ (l .at) (l .inv) (c .before .before .next-token .ensures) (c .before .is-end .ensures) (c .if1 .taken))
 
 loop-less : tie.Need-loop-less Inv-loop μ-loop
 loop-less c =
     let e = c .before .before .before .before .before in
     let l = e .before .before .loop in
-    let p = file-past _ (l .at) (l .inv) (e .before .next-token .ensures) (e .is-end .ensures) (c .before .before .before .before .if1 .left) (c .before .before .before .read-definition .ensures) (c .before .next .given .1) in
+    let p = file-past _ (l .at) (l .inv) (e .before .next-token .ensures) (e .is-end .ensures) (c .before .before .before .before .if1 .left) (c .before .before .before .read-definition .ensures .0) (c .before .next .given .1) in
     omega arith
 
 loop-again : tie.Need-loop-again Inv-loop μ-loop
 loop-again c =
     let e = c .before .before .before .before .before in
     let l = e .before .before .loop in
-    file-more _ (l .at) (l .inv) (e .before .next-token .ensures) (e .is-end .ensures) (c .before .before .before .before .if1 .left) (c .before .before .before .read-definition .ensures) (c .before .next .given .1)
+    file-more _ (l .at) (l .inv) (e .before .next-token .ensures) (e .is-end .ensures) (c .before .before .before .before .if1 .left) (c .before .before .before .read-definition .ensures .0) (c .before .next .given .1)
 
 returns-2 : tie.Need-returns-2 Inv-loop μ-loop
 returns-2 c =
     let e = c .before .before .before .before .before in
     let l = e .before .before .loop in
-    file-stop _ (l .at) (l .inv) (e .before .next-token .ensures) (e .is-end .ensures) (c .before .before .before .before .if1 .left) (c .before .before .before .read-definition .ensures) (c .before .number .given .1)
+    with-numbers _ (file-stop _ (l .at) (l .inv) (e .before .next-token .ensures) (e .is-end .ensures) (c .before .before .before .before .if1 .left) (c .before .before .before .read-definition .ensures .0) (c .before .number .given .1))
 
 pub read-file-spec : {M : Type 1} → statement M
 read-file-spec =

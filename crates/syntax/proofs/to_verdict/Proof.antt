@@ -10,4 +10,4 @@ to-verdict-spec =
     (λ c. search needs)
     (λ c κs. search needs)
     (λ c. rw (c .enum-told .given .1))
-    (λ c. rw (c .before .before .answer .given .1) (c .refuse .ensures)))
+    (λ c. rw (c .before .before .answer .given .1) (c .refuse .ensures .0)))

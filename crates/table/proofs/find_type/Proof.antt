@@ -1,4 +1,4 @@
--- For all types that stand there, what the name means among those left to look at is what it means among all.
+-- What the name means among the types left to look at is what it means among all.
 use borrow.Author.Needs.{needs}
 use Rattle.table.proofs.Laws.{Seeking, seek-start, seek-here, seek-on, seek-end}
 use Rattle.table.proofs.find_type.Statement.{statement}

@@ -1,6 +1,6 @@
--- For all instances that stand there, the name is among those left to look at exactly when it is among all.
+-- The name is among the cells left to look at exactly when it is among all.
 use borrow.Author.Needs.{needs}
-use borrow.Author.Tests.{not-true, not-false}
+use borrow.Author.Tests.{not-true}
 use Prim.Native.Nat.{_-_}
 use Rattle.table.proofs.Laws.{Looking, look-start, look-here, look-on, look-end, look-none}
 use Rattle.table.proofs.is_held.Statement.{statement}

@@ -23,19 +23,19 @@ returns-3 : tie.Need-returns-3 Inv-loop μ-loop
 returns-3 c =
     let e = c .before .before .before .before .before .before .before in
     title-refused _ (e .before .before .before .loop .inv) (e .before .before .read-header .ensures) (e .header .given .1) (c .before .before .before .before .before .is-addrmap .ensures)
-    (c .before .before .before .before .if1 .left) (c .before .before .before .read-definition .ensures) (c .before .enum-told2 .given .1)
+    (c .before .before .before .before .if1 .left) (c .before .before .before .read-definition .ensures .0) (c .before .enum-told2 .given .1)
 
 loop-less : tie.Need-loop-less Inv-loop μ-loop
 loop-less c =
     let e = c .before .before .before .before .before .before .before in
     title-falls _ (e .before .before .before .loop .inv) (e .before .before .read-header .ensures) (e .header .given .1) (c .before .before .before .before .before .is-addrmap .ensures)
-    (c .before .before .before .before .if1 .left) (c .before .before .before .read-definition .ensures) (c .before .next .given .1)
+    (c .before .before .before .before .if1 .left) (c .before .before .before .read-definition .ensures .0) (c .before .next .given .1)
 
 loop-again : tie.Need-loop-again Inv-loop μ-loop
 loop-again c =
     let e = c .before .before .before .before .before .before .before in
     title-goes _ (e .before .before .before .loop .inv) (e .before .before .read-header .ensures) (e .header .given .1) (c .before .before .before .before .before .is-addrmap .ensures)
-    (c .before .before .before .before .if1 .left) (c .before .before .before .read-definition .ensures) (c .before .next .given .1)
+    (c .before .before .before .before .if1 .left) (c .before .before .before .read-definition .ensures .0) (c .before .next .given .1)
 
 pub first-title-spec : {M : Type 1} → statement M
 first-title-spec =

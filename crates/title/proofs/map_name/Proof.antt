@@ -12,5 +12,5 @@ map-name-spec =
     (λ c κs. search needs)
     (λ c. search needs)
     (λ c κs. search needs)
-    (λ c. name-missing _ (c .before .before .before .read-file .ensures) (c .before .enum-told .given .1) (c .no-name .ensures))
-    (λ c. name-read _ (c .before .before .before .read-file .ensures) (c .before .enum-told2 .given .1) (c .first-title .ensures)))
+    (λ c. name-missing _ (c .before .before .before .read-file .ensures .0) (c .before .enum-told .given .1) (c .no-name .ensures))
+    (λ c. name-read _ (c .before .before .before .read-file .ensures .0) (c .before .enum-told2 .given .1) (c .first-title .ensures)))

@@ -101,37 +101,37 @@ abbrev walk-array-μ-loop : walk-array-lts.MeasureT-loop
 walk-array-μ-loop text cells shapes log₀ extent levels kid trail count k₀ address₀ tally₀ log k address tally = count - k
 
 walk-array-loop-holds : (t : ℕ) → walk-array-lts.Need-loop-holds (walk-array-claims t) (walk-array-at t) walk-array.Post walk-array-Inv-loop walk-array-μ-loop
-walk-array-loop-holds t c = array-start _ _ _ _ _ _ _ _ (c .before .before .before .before .before .before .pre .1 .1) (c .before .before .before .before .before .before .pre .1 .2)
+walk-array-loop-holds t c = array-start _ _ _ _ _ _ _ _ (c .before .before .before .before .before .before .before .pre .1 .1) (c .before .before .before .before .before .before .before .pre .1 .2)
 
 walk-array-element-of-requires : (t : ℕ) → walk-array-lts.Need-element-of-requires (walk-array-claims t) (walk-array-at t) walk-array.Post walk-array-Inv-loop walk-array-μ-loop
-walk-array-element-of-requires t c κs = index-fits _ _ _ _ _ _ _ _ (c .before .loop .inv) (c .before .before .elements-of .ensures) (c .loop-test .taken) (c .before .before .before .before .before .before .before .before .pre .1 .1)
+walk-array-element-of-requires t c κs = index-fits _ _ _ _ _ _ _ _ (c .before .loop .inv) (c .before .before .before .elements-of .ensures) (c .loop-test .taken) (c .before .before .before .before .before .before .before .before .before .pre .1 .1)
 
 walk-array-walk-element-requires : (t : ℕ) → walk-array-lts.Need-walk-element-requires (walk-array-claims t) (walk-array-at t) walk-array.Post walk-array-Inv-loop walk-array-μ-loop
-walk-array-walk-element-requires t c κs = let l = element-fits _ _ _ _ _ _ _ _ (c .before .before .before .loop .inv) (c .before .before .before .before .before .before .before .before .before .before .pre .1 .1) (c .before .element-of .ensures) in (omega (arith, c .before .before .before .before .before .before .before .before .before .before .pre .0), (c .before .before .before .before .before .before .before .before .before .before .pre .1 .0, l .0, l .1, c .before .before .before .loop .inv .small, c .before .before .before .before .before .before .before .before .before .before .pre .1 .3))
+walk-array-walk-element-requires t c κs = let l = element-fits _ _ _ _ _ _ _ _ (c .before .before .before .loop .inv) (c .before .before .before .before .before .before .before .before .before .before .before .pre .1 .1) (c .before .element-of .ensures) in (omega (arith, c .before .before .before .before .before .before .before .before .before .before .before .pre .0), (c .before .before .before .before .before .before .before .before .before .before .before .pre .1 .0, l .0, l .1, c .before .before .before .loop .inv .small, c .before .before .before .before .before .before .before .before .before .before .before .pre .1 .3))
 
 walk-array-same-length : (t : ℕ) → walk-array-lts.Need-same-length (walk-array-claims t) (walk-array-at t) walk-array.Post walk-array-Inv-loop walk-array-μ-loop
 walk-array-same-length t c = c .before .before .before .before .before .walk-element .kept .1 .1 .1 .0 ∙ c .before .before .before .before .before .before .before .before .before .loop .inv .long
 
 walk-array-returns : (t : ℕ) → walk-array-lts.Need-returns (walk-array-claims t) (walk-array-at t) walk-array.Post walk-array-Inv-loop walk-array-μ-loop
-walk-array-returns t c = array-fault _ _ _ _ _ _ _ _ (c .before .before .before .before .before .before .before .before .before .loop .inv) (c .before .before .before .before .before .before .before .before .before .before .elements-of .ensures) (c .before .before .before .before .before .before .before .before .loop-test .taken) (c .before .before .before .before .before .before .before .element-of .ensures) (c .before .before .before .before .before .walk-element .ensures) (c .before .place .given .1)
+walk-array-returns t c = array-fault _ _ _ _ _ _ _ _ (c .before .before .before .before .before .before .before .before .before .loop .inv) (c .before .before .before .before .before .before .before .before .before .before .before .elements-of .ensures) (c .before .before .before .before .before .before .before .before .loop-test .taken) (c .before .before .before .before .before .before .before .element-of .ensures) (c .before .before .before .before .before .walk-element .ensures) (c .before .place .given .1)
 
 walk-array-sum-requires : (t : ℕ) → walk-array-lts.Need-sum-requires (walk-array-claims t) (walk-array-at t) walk-array.Post walk-array-Inv-loop walk-array-μ-loop
-walk-array-sum-requires t c κs = (c .before .before .before .before .before .before .before .before .before .loop .inv .low, c .before .before .before .before .before .before .before .before .before .before .before .before .before .before .before .before .pre .1 .1 .stride)
+walk-array-sum-requires t c κs = (c .before .before .before .before .before .before .before .before .before .loop .inv .low, c .before .before .before .before .before .before .before .before .before .before .before .before .before .before .before .before .before .pre .1 .1 .stride)
 
 walk-array-add-k : (t : ℕ) → walk-array-lts.Need-add-k (walk-array-claims t) (walk-array-at t) walk-array.Post walk-array-Inv-loop walk-array-μ-loop
-walk-array-add-k t c = let l = index-fits _ _ _ _ _ _ _ _ (c .before .before .before .before .before .before .before .before .before .before .loop .inv) (c .before .before .before .before .before .before .before .before .before .before .before .elements-of .ensures) (c .before .before .before .before .before .before .before .before .before .loop-test .taken) (c .before .before .before .before .before .before .before .before .before .before .before .before .before .before .before .before .before .pre .1 .1) in omega (arith, l)
+walk-array-add-k t c = let l = index-fits _ _ _ _ _ _ _ _ (c .before .before .before .before .before .before .before .before .before .before .loop .inv) (c .before .before .before .before .before .before .before .before .before .before .before .before .elements-of .ensures) (c .before .before .before .before .before .before .before .before .before .loop-test .taken) (c .before .before .before .before .before .before .before .before .before .before .before .before .before .before .before .before .before .before .pre .1 .1) in omega (arith, l)
 
 walk-array-loop-less : (t : ℕ) → walk-array-lts.Need-loop-less (walk-array-claims t) (walk-array-at t) walk-array.Post walk-array-Inv-loop walk-array-μ-loop
-walk-array-loop-less t c = array-falls _ _ _ _ _ _ _ _ (c .before .before .before .before .before .before .before .before .before .before .loop .inv) (c .before .before .before .before .before .before .before .before .before .before .before .elements-of .ensures) (c .before .before .before .before .before .before .before .before .before .loop-test .taken)
+walk-array-loop-less t c = array-falls _ _ _ _ _ _ _ _ (c .before .before .before .before .before .before .before .before .before .before .loop .inv) (c .before .before .before .before .before .before .before .before .before .before .before .before .elements-of .ensures) (c .before .before .before .before .before .before .before .before .before .loop-test .taken)
 
 walk-array-loop-again : (t : ℕ) → walk-array-lts.Need-loop-again (walk-array-claims t) (walk-array-at t) walk-array.Post walk-array-Inv-loop walk-array-μ-loop
-walk-array-loop-again t c = array-on _ _ _ _ _ _ _ _ (c .before .before .before .before .before .before .before .before .before .before .loop .inv) (c .before .before .before .before .before .before .before .before .before .before .before .elements-of .ensures) (c .before .before .before .before .before .before .before .before .before .loop-test .taken) (c .before .before .before .before .before .before .before .before .element-of .ensures) (c .before .before .before .before .before .before .walk-element .ensures) (c .before .before .before .before .before .before .walk-element .kept .1 .1 .1 .0) (c .before .before .next .given .1) (c .sum .ensures)
+walk-array-loop-again t c = array-on _ _ _ _ _ _ _ _ (c .before .before .before .before .before .before .before .before .before .before .loop .inv) (c .before .before .before .before .before .before .before .before .before .before .before .before .elements-of .ensures) (c .before .before .before .before .before .before .before .before .before .loop-test .taken) (c .before .before .before .before .before .before .before .before .element-of .ensures) (c .before .before .before .before .before .before .walk-element .ensures) (c .before .before .before .before .before .before .walk-element .kept .1 .1 .1 .0) (c .before .before .next .given .1) (c .sum .ensures)
 
 walk-array-same-length-2 : (t : ℕ) → walk-array-lts.Need-same-length-2 (walk-array-claims t) (walk-array-at t) walk-array.Post walk-array-Inv-loop walk-array-μ-loop
 walk-array-same-length-2 t c = c .before .loop .inv .long
 
 walk-array-returns-2 : (t : ℕ) → walk-array-lts.Need-returns-2 (walk-array-claims t) (walk-array-at t) walk-array.Post walk-array-Inv-loop walk-array-μ-loop
-walk-array-returns-2 t c = array-end _ _ _ _ _ _ _ _ (c .before .loop .inv) (c .before .before .elements-of .ensures) (c .loop-test .left)
+walk-array-returns-2 t c = array-end _ _ _ _ _ _ _ _ (c .before .loop .inv) (c .before .before .before .elements-of .ensures) (c .loop-test .left)
 
 abbrev walk-children-Inv-loop : walk-children-lts.InvT-loop
 walk-children-Inv-loop text cells shapes log₀ extent levels row alignment base trail span i₀ end₀ tally₀ log i end tally =
@@ -207,19 +207,19 @@ walk-element-returns : (t : ℕ) → walk-element-lts.Need-returns (walk-element
 walk-element-returns t c = element-deep _ _ _ _ _ _ _ (c .if1 .taken)
 
 walk-element-deeper-requires : (t : ℕ) → walk-element-lts.Need-deeper-requires (walk-element-claims t) (walk-element-at t) walk-element.Post
-walk-element-deeper-requires t c κs = omega (arith, c .before .before .before .before .before .before .before .pre .1 .4, c .if1 .left)
+walk-element-deeper-requires t c κs = omega (arith, c .before .before .before .before .before .before .before .before .pre .1 .4, c .if1 .left)
 
 walk-element-visit-requires : (t : ℕ) → walk-element-lts.Need-visit-requires (walk-element-claims t) (walk-element-at t) walk-element.Post
-walk-element-visit-requires t c κs = (c .before .before .before .before .before .before .before .before .before .pre .1 .0, c .before .before .before .before .before .before .before .before .before .pre .1 .1, c .before .before .before .before .before .before .before .before .before .pre .1 .2, c .before .before .before .before .before .before .before .before .before .pre .1 .3, omega (arith, c .before .before .before .before .before .before .before .before .before .pre .1 .4, c .before .before .if1 .left, c .before .deeper .ensures .0))
+walk-element-visit-requires t c κs = (c .before .before .before .before .before .before .before .before .before .before .pre .1 .0, c .before .before .before .before .before .before .before .before .before .before .pre .1 .1, c .before .before .before .before .before .before .before .before .before .before .pre .1 .2, c .before .before .before .before .before .before .before .before .before .before .pre .1 .3, omega (arith, c .before .before .before .before .before .before .before .before .before .before .pre .1 .4, c .before .before .if1 .left, c .before .deeper .ensures .0))
 
 walk-element-walk-content-requires : (t : ℕ) → walk-element-lts.Need-walk-content-requires (walk-element-claims t) (walk-element-at t) walk-element.Post
-walk-element-walk-content-requires t c κs = (omega (arith, c .before .before .before .before .before .before .before .before .before .before .before .before .before .before .before .before .pre .0), (c .before .before .before .before .before .before .before .before .before .before .before .before .before .before .before .before .pre .1 .0, c .before .before .before .before .before .before .before .before .before .before .before .before .before .before .before .before .pre .1 .1, c .before .before .before .before .before .before .before .before .before .before .before .before .before .before .before .before .pre .1 .2, c .before .before .before .before .before .before .visit .ensures .small _ (c .before .before .next .given .1), omega (arith, c .before .before .before .before .before .before .before .before .before .before .before .before .before .before .before .before .pre .1 .4, c .before .before .before .before .before .before .before .before .before .if1 .left, c .before .before .before .before .before .before .before .before .deeper .ensures .0)))
+walk-element-walk-content-requires t c κs = (omega (arith, c .before .before .before .before .before .before .before .before .before .before .before .before .before .before .before .before .before .pre .0), (c .before .before .before .before .before .before .before .before .before .before .before .before .before .before .before .before .before .pre .1 .0, c .before .before .before .before .before .before .before .before .before .before .before .before .before .before .before .before .before .pre .1 .1, c .before .before .before .before .before .before .before .before .before .before .before .before .before .before .before .before .before .pre .1 .2, c .before .before .before .before .before .before .visit .ensures .small _ (c .before .before .next .given .1), omega (arith, c .before .before .before .before .before .before .before .before .before .before .before .before .before .before .before .before .before .pre .1 .4, c .before .before .before .before .before .before .before .before .before .if1 .left, c .before .before .before .before .before .before .before .before .deeper .ensures .0)))
 
 walk-element-returns-2 : (t : ℕ) → walk-element-lts.Need-returns-2 (walk-element-claims t) (walk-element-at t) walk-element.Post
-walk-element-returns-2 t c = element-stops _ _ _ _ _ _ _ (c .before .before .before .before .before .before .before .before .before .before .before .before .before .before .before .pre .1 .4) (c .before .before .before .before .before .before .before .before .if1 .left) (c .before .before .before .before .before .before .before .deeper .ensures) (c .before .before .before .before .before .visit .ensures) (c .before .place .given .1)
+walk-element-returns-2 t c = element-stops _ _ _ _ _ _ _ (c .before .before .before .before .before .before .before .before .before .before .before .before .before .before .before .before .pre .1 .4) (c .before .before .before .before .before .before .before .before .if1 .left) (c .before .before .before .before .before .before .before .deeper .ensures) (c .before .before .before .before .before .visit .ensures) (c .before .place .given .1)
 
 walk-element-returns-3 : (t : ℕ) → walk-element-lts.Need-returns-3 (walk-element-claims t) (walk-element-at t) walk-element.Post
-walk-element-returns-3 t c = element-goes _ _ _ _ _ _ _ (c .before .before .before .before .before .before .before .before .before .before .before .before .before .before .before .before .before .before .before .pre .1 .4) (c .before .before .before .before .before .before .before .before .before .before .before .before .if1 .left) (c .before .before .before .before .before .before .before .before .before .before .before .deeper .ensures) (c .before .before .before .before .before .before .before .before .before .visit .ensures) (c .before .before .before .before .before .next .given .1) (c .before .before .walk-content .ensures)
+walk-element-returns-3 t c = element-goes _ _ _ _ _ _ _ (c .before .before .before .before .before .before .before .before .before .before .before .before .before .before .before .before .before .before .before .before .pre .1 .4) (c .before .before .before .before .before .before .before .before .before .before .before .before .if1 .left) (c .before .before .before .before .before .before .before .before .before .before .before .deeper .ensures) (c .before .before .before .before .before .before .before .before .before .visit .ensures) (c .before .before .before .before .before .next .given .1) (c .before .before .walk-content .ensures)
 
 pub +walk-array+walk-children+walk-content+walk-element-spec : {M : Type 1} → statement M
 +walk-array+walk-children+walk-content+walk-element-spec =

@@ -18,4 +18,4 @@ survey-spec =
     (λ c. search needs)
     (λ c. survey-broken _ _ _ _ _ (c .before .before .before .before .before .before .before .before .before .walk-map .ensures) (c .before .before .before .before .before .tally .given .1) (c .before .before .before .first-of .ensures) (c .before .number .given .1))
     (λ c. search needs)
-    (λ c. survey-sound _ _ _ _ _ (c .before .before .before .before .before .before .before .before .walk-map .ensures) (c .before .before .before .before .tally .given .1) (c .before .before .first-of .ensures) (c .enum-told .given .1) (c .before .before .before .before .before .before .before .before .before .before .before .before .before .before .pre .2)))
+    (λ c. survey-sound _ _ _ _ _ (c .before .before .before .before .before .before .before .before .walk-map .ensures) (c .before .before .before .before .tally .given .1) (c .before .before .first-of .ensures) (c .enum-told .given .1)))

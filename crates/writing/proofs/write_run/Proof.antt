@@ -31,7 +31,7 @@ write-run-spec =
     (λ c κs. search needs)
     (λ c κs. runs-bits _ _ _ (c .before .before .before .before .before .before .before .before .before .before .loop .inv))
     (λ c κs. runs-low _ _ _ (c .before .before .before .before .before .before .before .before .before .before .before .before .before .before .loop .inv))
-    (λ c κs. runs-top _ _ _ (c .before .before .before .before .before .before .before .before .before .before .before .before .before .before .before .before .before .before .before .loop .inv) (c .before .before .before .before .before .before .before .before .before .before .before .before .before .before .before .before .before .if1 .taken) (c .before .before .before .before .before .before .before .before .placed-as .ensures))
+    (λ c κs. runs-top _ _ _ (c .before .before .before .before .before .before .before .before .before .before .before .before .before .before .before .before .before .before .before .loop .inv) (c .before .before .before .before .before .before .before .before .before .before .before .before .before .before .before .before .before .if1 .taken) _ _ (c .before .before .before .before .before .before .before .before .placed-as .ensures))
     (λ c. record { fits = runs-steps _ _ _ (c .before .before .before .before .before .before .before .before .before .before .before .before .before .before .before .before .before .before .before .before .loop .inv) (c .before .before .before .before .before .before .before .before .before .before .before .before .before .before .before .before .before .before .if1 .taken) })
     (λ c. runs-falls _ _ _ (c .before .before .before .before .before .before .before .before .before .before .before .before .before .before .before .before .before .before .before .before .loop .inv) (c .before .before .before .before .before .before .before .before .before .before .before .before .before .before .before .before .before .before .if1 .taken))
     (λ c. runs-next _ _ _ (c .before .before .before .before .before .before .before .before .before .before .before .before .before .before .before .before .before .before .before .before .loop .inv) (c .before .before .before .before .before .before .before .before .before .before .before .before .before .before .before .before .before .before .if1 .taken) (c .before .before .before .before .before .before .before .before .before .before .before .before .before .before .before .before .before .cell .ensures) (c .before .before .before .before .before .before .before .before .before .before .before .before .before .before .before .before .place-in .ensures) (c .before .before .before .before .before .before .before .before .before .before .before .before .before .before .before .read-instance .ensures) (c .before .before .before .before .before .before .before .before .before .before .before .before .before .instance .given .1) (c .before .before .before .before .before .before .before .before .before .before .before .row-in .ensures) (c .before .before .before .before .before .before .before .before .before .before .component-at .ensures) (c .before .before .before .before .before .before .before .before .before .placed-as .ensures) (c .before .before .before .before .before .write-placed .ensures) (c .bit-above .ensures))

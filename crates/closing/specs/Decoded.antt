@@ -1,0 +1,81 @@
+-- What the cells of a body's instances decode to at its closing brace, whatever they hold: the fields of a register, and what is judged.
+use mathlib.Core.Bool.{Bool, false}
+use mathlib.Core.List.{List, []}
+use Prim.Native.Nat.{ℕ, zero, suc, _-_}
+use lib.Dec.{eqb}
+use Rattle.chars.specs.Choice.{if_then_else_}
+use Rattle.parts.specs.Reading.{Parsed, ok, stop}
+use Rattle.parts.specs.Parts.{instanceAt}
+use Rattle.parts.specs.declared.Kind.the-variants as kind
+use Rattle.parts.specs.declared.Instance.{Instance}
+use Rattle.suffixes.specs.Suffixes.{instanceFault}
+use Rattle.suffixes.specs.declared.Fault.{Fault}
+use Rattle.suffixes.specs.declared.Fault.the-variants.{Sound, Broken}
+use Rattle.components.specs.Fields.{fieldAt, breaks}
+use Rattle.components.specs.declared.FieldAt.{FieldAt}
+use Rattle.components.specs.declared.BitPlace.{BitPlace}
+use Rattle.components.specs.declared.Component.{Component}
+use Rattle.components.specs.declared.Component.the-variants as component
+use Rattle.components.specs.declared.Probe.{Probe}
+use Rattle.components.specs.declared.Probe.the-variants.{Overlap}
+use Rattle.table.specs.Cells.{cellOf, componentIn, placeIn, rowIn}
+use Rattle.closing.specs.declared.Placed.{Placed}
+use Rattle.closing.specs.declared.Placed.the-variants as placed
+use Rattle.closing.specs.Registers.{bitAbove, withPlaced, firstBit, some, registerFault, effectFault}
+
+-- a field, unless its instance has a fault
+abbrev pub unlessBroken : Fault → FieldAt → Placed
+unlessBroken Sound f = placed.Field f
+unlessBroken (Broken n p) f = placed.Other
+
+-- an instance of a component as a field of a register, if it is one and its suffixes are sound; `next` is the bit above the field before it
+unfoldable pub placedAs : Component → BitPlace → Instance → Placed
+placedAs (component.Field f) next i = unlessBroken (instanceFault kind.Field i) (fieldAt next i f)
+placedAs (component.Register r) next i = placed.Other
+placedAs (component.Regfile a) next i = placed.Other
+placedAs (component.Addrmap a m) next i = placed.Other
+
+-- the same of what is read at a place
+abbrev pub placedRead : Component → BitPlace → Parsed Instance → Placed
+placedRead d next (ok i n) = placedAs d next i
+placedRead d next (stop n p) = placed.Other
+
+-- the instance of a cell as a field: its type is the component of the cell's row
+unfoldable pub placedIn : List ℕ → List ℕ → BitPlace → ℕ → Placed
+placedIn text t next x = placedRead (componentIn t (rowIn x)) next (instanceAt text (placeIn x))
+
+-- the fields of the `count` cells from the index `i` on, the first from the bit `next` on
+unfoldable pub fieldsInCells : List ℕ → List ℕ → BitPlace → ℕ → ℕ → List FieldAt
+fieldsInCells text t next i zero = []
+fieldsInCells text t next i (suc count) =
+    let p = placedIn text t next (cellOf t i) in
+    withPlaced p (fieldsInCells text t (bitAbove p next) (suc i) count)
+
+-- the fields of a register whose instances stand in the cells from one up to another
+abbrev pub fieldsBetween : List ℕ → List ℕ → ℕ → ℕ → List FieldAt
+fieldsBetween text t from to = fieldsInCells text t firstBit from (to - from)
+
+-- the top bit of a field
+abbrev pub topOf : Placed → ℕ
+topOf (placed.Field f) = f .high .0
+topOf placed.Other = 0
+
+abbrev pub breaksIn : Probe → Placed → Bool
+breaksIn probe (placed.Field f) = breaks probe f
+breaksIn probe placed.Other = false
+
+-- whether a field overlaps one of these, which stand before it
+abbrev pub overlapsEarlier : Placed → List FieldAt → Bool
+overlapsEarlier (placed.Field f) fs = some (Overlap f) fs
+overlapsEarlier placed.Other fs = false
+
+-- 10 where there is no instance
+abbrev pub missingFault : ℕ → ℕ → ℕ
+missingFault from to = if eqb from to then 10 else 0
+
+-- the smallest number that a body breaks at its closing brace, and 0 for none: its instances stand in the cells from one up to another
+unfoldable pub closingIn : List ℕ → List ℕ → ℕ → ℕ → Component → ℕ
+closingIn text t from to (component.Field f) = effectFault f
+closingIn text t from to (component.Register r) = if eqb from to then 10 else registerFault r (fieldsBetween text t from to)
+closingIn text t from to (component.Regfile a) = missingFault from to
+closingIn text t from to (component.Addrmap a m) = missingFault from to

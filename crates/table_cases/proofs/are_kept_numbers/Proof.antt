@@ -1,0 +1,27 @@
+-- The index rises to the length.
+use Prim.Native.Nat.{_-_, _≤_}
+use lib.ListN.{length}
+use borrow.Author.Needs.{needs}
+use Rattle.table_cases.proofs.are_kept_numbers.Statement.{statement}
+use Rattle.table_cases.proofs.are_kept_numbers.Tie as tie
+
+abbrev Inv-loop : tie.InvT-loop
+Inv-loop numbers k₀ k = k ≤ length numbers
+
+abbrev μ-loop : tie.MeasureT-loop
+μ-loop numbers k₀ k = length numbers - k
+
+pub are-kept-numbers-spec : {M : Type 1} → statement M
+are-kept-numbers-spec =
+    tie.close
+    (tie.spec
+    Inv-loop
+    μ-loop
+    (λ c. search needs)
+    (λ c. search needs)
+    (λ c. search needs)
+    (λ c. search needs)
+    (λ c. search needs)
+    (λ c. search needs)
+    (λ c. search needs)
+    (λ c. search needs))
