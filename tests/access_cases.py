@@ -4,9 +4,10 @@
     access_cases.py PACK      PACK: the conformance pack of logs, replay.pack
 
 The model here is a second one, written from document 01: it works on whole registers with masks, where the crates go field by field and
-bit by bit. The answers of the pack's cases are the pack's own. stdin: for each case a little-endian u32 length and the text of a map; a
-u32 count, and so many commands of four little-endian u64 numbers: 0 reset; 1 address width: read; 2 address width word: write; 3 table
-index value: put a number (tables: registers, paths, fields, labels, store); 4 table length: lend so much; 5: show the store.
+bit by bit. The answers of the pack's cases are the pack's own; it is the base's, so texts with marks of request 1 are left out.
+stdin: for each case a little-endian u32 length and the text of a map; a u32 count, and so many commands of four little-endian u64
+numbers: 0 reset; 1 address width: read; 2 address width word: write; 3 table index value: put a number (tables: registers, paths,
+fields, labels, store); 4 table length: lend so much; 5: show the store.
 stdout: a line `case N`, then a line for each command but 3 and 4.
 """
 import os
@@ -14,6 +15,8 @@ import struct
 import sys
 from collections import namedtuple
 from random import Random
+
+from kept_answers import has_new_marks
 
 REGISTERS, PATHS, FIELDS, LABELS, STORE = range(5)
 UNTOUCHED, PAST = 77, 2
@@ -444,7 +447,7 @@ def main():
     cases += [random_case(seed) for seed in range(300)]
     cases = [(case.text, case.commands, case.lines) for case in cases]
     with open(sys.argv[1], "rb") as pack:
-        cases += [pack_case(text, answer) for text, _, answer in pack_cases(pack.read())]
+        cases += [pack_case(text, answer) for text, _, answer in pack_cases(pack.read()) if not has_new_marks(text)]
     folder = os.path.join(os.path.dirname(os.path.abspath(__file__)), "..", "crates", "access_cases")
     with open(os.path.join(folder, "stdin"), "wb") as stdin, open(os.path.join(folder, "stdout"), "w") as stdout:
         for number, (text, commands, lines) in enumerate(cases):

@@ -68,8 +68,9 @@ TEXTS = {
     "nested comments": nested_comments,
     "names": lambda: single(8000),
 }
-# those of the rules stage that take long there
-TEXTS.update({label: make for label, _, make in measure_rules.TEXTS if label in ("b2", "c2", "c3", "d", "e2", "g")})
+# those of the rules stage that take long there, and those with sums
+CHOSEN = "b2 c2 c3 d e2 g i i2 i3 i4 i6".split()
+TEXTS.update({label: make for label, _, make in measure_rules.TEXTS if label in CHOSEN})
 
 
 def run(text, limit=None):
@@ -96,17 +97,23 @@ def least_stack(text, answer):
     return high
 
 
+def shortest(text):
+    """The shortest time of some runs, in ms."""
+    return 1000 * min(run(text)[2] for _ in range(RUNS))
+
+
 def main():
     chosen = sys.argv[1:] or list(TEXTS)
-    print("| text | bytes | ms | stack, KiB | answer |")
-    print("|---|---|---|---|---|")
+    ordinary = shortest(TEXTS["ordinary"]())
+    print("| text | bytes | ms | ratio to the ordinary | stack, KiB | answer |")
+    print("|---|---|---|---|---|---|")
     for label in chosen:
         text = TEXTS[label]()
         answer, _, _ = run(text)
-        best = min(run(text)[2] for _ in range(RUNS))
+        took = shortest(text)
         first = answer.split(b"\n")[0].decode()
         shown = first if first.startswith("refused") else f"{answer.count(b'reg=')} registers"
-        print(f"| {label} | {len(text):,} | {best * 1000:.1f} | {least_stack(text, answer):,} | {shown} |", flush=True)
+        print(f"| {label} | {len(text):,} | {took:.1f} | {took / ordinary:.1f} | {least_stack(text, answer):,} | {shown} |", flush=True)
 
 
 if __name__ == "__main__":

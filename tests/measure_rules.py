@@ -15,7 +15,7 @@ import struct
 import subprocess
 import sys
 import tempfile
-from itertools import count, islice, product
+from itertools import count, islice, product, repeat
 
 from word_cases import KEYWORDS
 
@@ -160,6 +160,17 @@ def many_types(type_names, names):
     return as_many(before, (f"{types[0]} {name};" for name in names), "};")
 
 
+def with_sum(before, behind, number="0"):
+    """The text with a sum that fills it, of the operator before which most rows are tried."""
+    return as_many(before, repeat(number), behind, "|")
+
+
+def summed_field():
+    """A register of 128 lawful fields, the first with a sum for its right bit."""
+    fields = lawful_fields(short_names(), range(1, 64))
+    return with_sum(FIELD_TYPES + REGISTER + "R first[0:", "];W second[0:0];" + fields + USED)
+
+
 TEXTS = [
     ("a", "an ordinary post", ordinary),
     ("b", "8,000 instances in one body, names of 7 bytes", lambda: instances(islice(names_of("a", 6), 8000))),
@@ -174,6 +185,15 @@ TEXTS = [
     ("g", "254 types, each use is of the type declared first", lambda: many_types(short_names(), short_names())),
     ("g2", "the same, type names of 31 bytes that differ at the end", lambda: many_types(names_of("t" * 28, 3), short_names())),
     ("h", "instance names of 31 bytes that differ at the end", lambda: instances(names_of("a" * 26, 5))),
+    ("i", "a sum of 65,000 bytes as an address", lambda: with_sum("addrmap m{reg{field{}f;}a@", ";};")),
+    ("i2", "a sum of 65,000 bytes as the value of a reset", lambda: with_sum("addrmap m{reg{field{reset=", ";}f;}a;};")),
+    ("i3", "128 fields in one register, a sum of 64,000 bytes in the first", summed_field),
+    ("i4", "a sum of 65,000 bytes in an instance of a regfile that stands 1,024 times",
+     lambda: with_sum("addrmap m{regfile{reg{field{}f;}a@", ";}b[1024];};")),
+    ("i5", "as i, each number in 16 parentheses",
+     lambda: with_sum("addrmap m{reg{field{}f;}a@", ";};", "(" * 16 + "0" + ")" * 16)),
+    ("i6", "a sum of 65,000 bytes in a field of a register that stands 1,024 times",
+     lambda: with_sum("addrmap m{reg{field{}f=", ";}a[1024];};")),
 ]
 
 

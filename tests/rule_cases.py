@@ -2,8 +2,9 @@
 """The cases of the rules stage: writes crates/rule_cases/stdin and the output that is due for it, its stdout.
 
 The judge here is a second one, written from document 01 and the decisions on it, by an author who had not read the crates of the
-rules stage. Its words come from the second lexer, tests/word_cases.py, its sentences from the second reader,
-tests/sentence_cases.py; it builds the tree of a text that passes both, and collects the faults of that tree.
+rules stage; what it knows of sums (request 1) was added by one who had. Its words come from the second lexer, tests/word_cases.py,
+its sentences and numbers from the second readers, tests/sentence_cases.py and tests/expressions.py; it builds the tree of a text that
+passes both, and collects the faults of that tree.
 stdin: for each case a little-endian u32 length, then the text. stdout: for each case a line with the case's number and
 ` accepted` or ` refused=N at=P`, by the words, by the sentences if those pass, or by the rules (5 to 17, and 18 for definitions).
 """
@@ -12,14 +13,14 @@ from itertools import combinations, product
 from random import Random
 
 import sentence_cases
-from sentence_cases import KIND, NAME, Reader, each, keywords, mark
+from expressions import OPERAND, Word, mark
+from sentence_cases import KIND, NAME, Reader, each, keywords
 from word_cases import PROPERTIES, all_tokens, write_cases
 
 MOST_DEFINITIONS = 256
 
 # --- the tree of a text ---
 
-Word = namedtuple("Word", "content place")  # the content of a number is its value, of any other word its spelling
 Definition = namedtuple("Definition", "kind name elements brace instances")
 Statement = namedtuple("Statement", "type instances")
 Setting = namedtuple("Setting", "default property value")
@@ -34,7 +35,7 @@ class TreeReader(Reader):
 
     def __init__(self, text, tokens):
         super().__init__(tokens)
-        self.contents = [int(word[7:]) if word.startswith(b"number=") else text[start:end] for word, start, end in tokens]
+        self.contents = [text[start:end] for _, start, end in tokens]
 
     def word(self):
         self.at += 1
@@ -67,9 +68,12 @@ class TreeReader(Reader):
     def setting(self):
         default = self.skip(keywords(b"default"))
         word = self.word()
-        value = self.word() if self.skip(mark(b"=")) else None
+        value = self.value() if self.skip(mark(b"=")) else None
         self.take(mark(b";"))
         return Setting(default, word, value)
+
+    def value(self):
+        return self.expression() if self.sees(OPERAND) else self.word()
 
     def instances(self):
         return self.up_to(mark(b";"), self.instance)
@@ -77,9 +81,9 @@ class TreeReader(Reader):
     def instance(self):
         name, suffixes = self.word(), {}
         while self.sees(SUFFIX_MARKS):
-            start, numbers = self.word(), [self.word()]
+            start, numbers = self.word(), [self.expression()]
             if self.skip(mark(b":")):
-                numbers.append(self.word())
+                numbers.append(self.expression())
             self.skip(mark(b"]"))
             suffixes[b"[:]" if len(numbers) == 2 else start.content] = Suffix(start.place, numbers)
         self.skip(mark(b","))
@@ -147,6 +151,7 @@ PROPERTY_TABLE = {
     b"desc": Property(b"desc", KINDS, any_string),
 }
 DEFAULTED = b"sw hw reset onread onwrite regwidth accesswidth".split()
+NUMERIC = b"reset regwidth accesswidth alignment".split()
 
 
 def between(least, most):
@@ -208,7 +213,8 @@ def overlap(one, other):
 
 
 class Judge:
-    """Collects the faults of a tree, each a place and a number."""
+    """Collects the faults of a tree, each a place and a number. A number that an operator refuses is a fault there, and counts as not
+    given: whatever depends on it, but for its own kind and range, stands behind the operator."""
 
     def __init__(self):
         self.faults = []
@@ -271,7 +277,8 @@ class Judge:
         body.settings.add((known.sets, node.default))
         value = node.value or Word(b"true", word.place)
         meaning = known.meaning(value.content)
-        self.demand(meaning is not None, 9, value.place)
+        refused = value.content is None and known.sets in NUMERIC
+        self.demand(meaning is not None, 9, value.refused_at if refused else value.place)
         if meaning is not None:
             (body.defaults if node.default else body.own)[known.sets] = meaning
 
@@ -289,12 +296,22 @@ class Judge:
             self.demand(start in lawful, 11, suffix.place)
             self.demand(start != b"+=" or b"[" in suffixes, 11, suffix.place)
             self.demand(start != b"%=" or b"@" not in suffixes, 11, suffix.place)
-            self.demand(start not in lawful or lawful[start](suffix.numbers), 9, suffix.numbers[0].place)
+            if start in lawful:
+                self.numbers(suffix.numbers, lawful[start])
+
+    def numbers(self, numbers, are_lawful):
+        """No range over a refused number is judged."""
+        refused = [number.refused_at for number in numbers if number.content is None]
+        if refused:
+            self.faults.append((refused[0], 9))
+        else:
+            self.demand(are_lawful(numbers), 9, numbers[0].place)
 
     def place(self, suffixes, component, body):
         """Gives a field its bits, behind the previous one or by its range, and its reset."""
         def numbers(start, otherwise):
-            return [number.content for number in suffixes[start].numbers] if start in suffixes else otherwise
+            given = [number.content for number in suffixes[start].numbers] if start in suffixes else [None]
+            return otherwise if None in given else given
 
         low = body.fields[-1].high + 1 if body.fields else 0
         width, = numbers(b"[", [1])
@@ -518,15 +535,20 @@ def twice():
     return texts + fill(WITHIN[FIELD], statements(b"", in_field)) + fill(WITHIN[ADDRMAP], apart)
 
 
-def values():
-    """9: each property with each value, as a setting and as a default."""
+def with_values(values):
+    """Each property with each of the values, as a setting and as a default."""
     texts = []
     for name in PROPERTIES:
         kind = PROPERTY_TABLE[name].kinds[0]
-        texts += fill(WITHIN[kind], [b"%s = %s;" % (name, value) for value in VALUES])
+        texts += fill(WITHIN[kind], [b"%s = %s;" % (name, value) for value in values])
         if PROPERTY_TABLE[name].sets in DEFAULTED:
-            texts += fill(WITHIN[REG], [b"default %s = %s;" % (name, value) for value in VALUES])
+            texts += fill(WITHIN[REG], [b"default %s = %s;" % (name, value) for value in values])
     return texts
+
+
+def values():
+    """9: each property with each value."""
+    return with_values(VALUES)
 
 
 def suffixed(kind, suffixes):
@@ -915,9 +937,109 @@ def composed():
     return [Composer(seed, 25 if seed % 2 else 75).text() for seed in range(1200)]
 
 
+# --- the cases of sums ---
+
+# Sums near the limits of a place of a number, and sums that an operator refuses.
+SOUND = each(b"""(2) | 1 + 1 | 1 - 1 | 2 == 1 | 1 != 2 | (1 << 3) | 4 * 4 | 32 / 4 * 8 | 64 - 1 | 63 + 1 | 64 + 1 | 7 % 4 | 1 << 10 |
+    (1 << 10) + 1 | 65536 - 1 | 65535 + 1 | 65536 * 2 | 4294967296 - 1 | (4294967295 + 1) | 1 << 63 | (1 << 63) - 1 + (1 << 63) |
+    4'd15 + 1 | 8 & 12 ^ 2""")
+REFUSED = each(b"""1/0 | (1 % 0) | 5 - 6 | 5 - 6 + 6 | 7 - (1/0) | (70 - ((1/0))) | 1 << 64 | 0 >> 64 | 3 << 63 | 0 / (1/0) |
+    (5 - 6) / (1/0) | 18446744073709551615 + 1 | 4294967296 * 4294967296 | 1/0 == 1/0 | 70 * (1 << 60)""")
+SUMS = SOUND + [b"8 | 16", b"3 | 1/0"] + REFUSED
+
+
+def sum_values():
+    """9: each property with each sum. A refused one is 9 at its operator, or at its first byte where no number is due."""
+    return with_values(SUMS)
+
+
+def sum_suffixes():
+    """9: each suffix with each sum on each kind, beside 11 and other numbers; ranges of two sums, of which no refused one is judged."""
+    templates = each(b"""[#] | = # | @ # | [2] += # | += # | %= # | [0] += # | [#] += 0 | @ 4 %= # | @ # %= 3 | [2] = # @ 4 | [#], b[0] |
+        [0], b[#] | , a @ # | [#:0] | [3:#] | [70:#] | [(70):#] | [#:70] | [0:#] = 2""")
+    few = [b"70", b"3", *SOUND[1::4], *REFUSED[::3]]
+    texts = [text for kind in (REGFILE, REG, FIELD) for template in templates for text in suffixed(kind, fill(template, SUMS))]
+    return texts + suffixed(FIELD, [b"[%s:%s]" % pair for pair in product(few, few)])
+
+
+def sum_rules():
+    """13 to 17, and where fields lie, by the values of sums."""
+    texts = each(b"""field {} f[1 + 1] = 2 * 2; | field {} f[1 + 2] = 2 * 2; | field { reset = 1 << 4; } f[2 * 2]; |
+        field { reset = 1 << 4; } f[5]; | default reset = 3 - 1; field {} f; | default reset = 3 - 2; field {} f; |
+        default reset = 4; field {} f = 4 > 3; |
+        regwidth = 4 * 8; accesswidth = 8 << 3; field {} f; | regwidth = 8 << 3; accesswidth = 64 / 2; field {} f[32:32 - 1]; |
+        regwidth = 8 << 3; accesswidth = 64 / 2; field {} f[32 - 1:0]; | field {} f[30 + 2:30 + 1]; | field {} f[30 + 1:30]; |
+        field {} f[2 * 2], g[3:4 - 1]; | field {} f[2 * 2], g[4:8 / 2]; | field {} f[31], g, h; | field {} f[3 * 10], g[2]; |
+        default regwidth = 2 * 4; field {} f[8]; | field { sw = r; rclr; } f[4 * 2]; field { sw = w; } g[8 - 1:0]; |
+        field {} f[64 - 1:0]; | regwidth = 4 * 16; field {} f[64 - 1:0] = (1 << 63) - 1 + (1 << 63);""")
+    return fill(REGISTER, texts) + fill(b"addrmap m { default regwidth = 2 * 4; # };", fill(b"reg { # } k;", texts))
+
+
+SUM_FAULTS = each(b"""reg { field {} f; } s0[1/0]; | reg { field {} f; } s1 @ 5 - 6; | reg { field {} f; } s2[2] += 1 % 0; |
+    reg { field {} f; } s3 %= 1 << 64; | reg { field {} f[70:1/0]; } s4; | reg { field {} f[1/0], g[0:0]; } s5; |
+    reg { field {} f = 5 - 6; } s6; | reg { field { reset = 3 << 63; } f; } s7; | reg { field { sw = 1/0; } f; } s8; |
+    reg { regwidth = 1/0; field {} f[33]; } s9; | alignment = 1 % 0; | default reset = 7 - (1/0); | default regwidth = 0 >> 64; |
+    reg { field {} f[9]; accesswidth = 2 * 9223372036854775808; } t0; | name = 1/0; | default rclr = 1 == 1; |
+    reg { field {} f; } t1 = 1/0; | reg { field {} f; } t2[3:1/0]; | reg { field {} f; } t3 @ 4 %= 1/0; | field { reset = 1/0; } t4; |
+    reg { default reset = 1/0; field {} f; } t5; | reg { field {} f[0:0], g[1/0:0]; } t6; | foo = 1/0; | X t7[1/0]; |
+    reg { field {} f; } t8, t8[1/0]; | alignment = 8; alignment = 1/0;""")
+
+
+def sum_faults():
+    """Refused sums before and behind other faults and each other, in bodies of each kind and in unused definitions."""
+    alone = SUM_FAULTS + fill(b"regfile U { # reg { field {} f; } z; };", SUM_FAULTS)
+    texts = joined(SUM_FAULTS, FAULTY[::2]) + joined(FAULTY[1::2], SUM_FAULTS) + joined(SUM_FAULTS[::2], SUM_FAULTS[1::2])
+    return in_all(alone) + fill(WITHIN[ROOT], alone) + fill(MAP + b" #", alone[::2]) + fill(WITHIN[ADDRMAP], texts)
+
+
+def sum_stages():
+    """The stages before go first: a 3 or an 18 of a sum behind any fault of a rule."""
+    sums = [b"1 +", b"(1", b"a + 1", b"(" * 17 + b"1" + b")" * 17, b"(" * 16 + b"1" + b")" * 16, b"1/0 !"]
+    behind = [form.replace(b"#", text) for text in sums for form in each(b"alignment = #; | reg { field {} f; } s0[#];")]
+    return fill(WITHIN[ADDRMAP], joined(FAULTY[::4] + SUM_FAULTS[::5], behind))
+
+
+def long_sums():
+    """Sums of many operators, of which the last is refused or none, in each place of a number."""
+    long = b"8" + b"+8-8" * 500
+    sums = [long, long + b"/0", long + b"-9", b"0/(1/0+" + long + b")", long + b"*0"]
+    bodies = each(b"alignment = #; reg { field {} f; } k; | reg { field {} f[#]; } k @ #; | reg { field { reset = #; } f; } k;")
+    return [text for body in bodies for text in fill(b"addrmap m { %s };" % body, sums)]
+
+
+# A number as a sum of the same value, and with an operator that refuses it.
+SAME = [*each(b"(#) | # + 0 | 0 + # | # * 1 | #/1 | # << 0 | ((#) >> 0) | # & # | # ^ 0 | (# + 1) - 1 | # % (# + 1)"), b"0 | #"]
+NONE = each(b"#/0 | 0 - # - 1 | # << 64 | # - (1/0) | (#) % 0")
+
+
+def summed(text, seed):
+    """The text with sums in place of half of its numbers, of which few are refused."""
+    random = Random(seed)
+    parts, behind = [], 0
+    for word, start, end in all_tokens(text):
+        if word.startswith(b"number=") and random.random() < 0.5:
+            form = random.choice(NONE if random.random() < 0.05 else SAME)
+            parts += [text[behind:start], form.replace(b"#", text[start:end])]
+            behind = end
+    return b"".join(parts) + text[behind:]
+
+
+def numbers_changed():
+    """The examples with each of some sums in place of each number, and with sums in place of many at once."""
+    texts = [text[:start] + other + text[end:] for text in EXAMPLES
+             for word, start, end in all_tokens(text) if word.startswith(b"number=")
+             for other in each(b"(8) | 32 / 2 | 2 - 1 | 5 - 6 | 70 - (1/0) | 1 << 40")]
+    return texts + [summed(text, seed) for text in EXAMPLES for seed in range(40)]
+
+
+def sums_composed():
+    """The texts composed at random, with sums in place of many numbers."""
+    return [summed(text, seed) for seed, text in enumerate(composed())]
+
+
 GROUPS = [classroom, kinds, held, missing_instances, maps, names, scopes, properties, twice, values, suffix_sets, suffix_numbers,
           effects, defaults, reach, widths, positions, resets, overlaps, one_place, several, unused, counts, many, spaced, changed,
-          composed]
+          composed, sum_values, sum_suffixes, sum_rules, sum_faults, sum_stages, long_sums, numbers_changed, sums_composed]
 
 
 if __name__ == "__main__":

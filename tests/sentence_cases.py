@@ -2,10 +2,14 @@
 """The cases of the sentence stage: writes crates/sentence_cases/stdin and the output that is due for it, its stdout.
 
 The reader of sentences here is a second one, written from document 01, "Sentences", and the decisions on it, by an author who had
-not read the crates `parts` and `syntax`. Its words come from the second lexer, tests/word_cases.py.
-stdin: for each case a little-endian u32 length, then the text. stdout: for each case a line with the case's number and
-` accepted` or ` refused=N at=P`, by the words (1, 2, 4) or, if they pass, by the sentences (3, and 18 for a ninth open body).
+not read the crates `parts` and `syntax`. Its words come from the second lexer, tests/word_cases.py, its numbers from the second reader
+of expressions, tests/expressions.py.
+stdin: for each case a little-endian u32 length, then the text. stdout: for each case a line with the case's number and ` accepted`
+or ` refused=N at=P`, by the words (1, 2, 4) or, if they pass, by the sentences (3, and 18 for a ninth open body or a 17th open
+parenthesis).
 """
+import expressions
+from expressions import OPERAND, OPERATORS, Refused, mark
 from word_cases import KEPT, MARKS, TEXT_LIMIT, all_tokens, verdict, write_cases
 
 OPEN_BODIES = 8
@@ -17,46 +21,21 @@ def keywords(words):
     return {b"keyword=" + word for word in words.split()}
 
 
-def mark(spelling):
-    return {b"mark=" + spelling}
-
-
 NAME = {b"name"}
-NUMBER = {b"number"}
 KIND = keywords(b"addrmap regfile reg field")
 PROPERTY = NAME | keywords(b"sw hw rclr rset woclr woset")
 ACCESS = keywords(b"na rw wr r w")
 EFFECT = keywords(b"rclr rset woset woclr wot wzs wzc wzt wclr wset")
 ADDRESSING = keywords(b"compact regalign fullalign")
-VALUE = NUMBER | {b"string"} | keywords(b"true false") | ACCESS | EFFECT | ADDRESSING
+WORD_VALUE = {b"string"} | keywords(b"true false") | ACCESS | EFFECT | ADDRESSING
 
 
-class Refused(Exception):
-    """The first refusal: its number and place."""
-
-
-class Reader:
+class Reader(expressions.Reader):
     """Reads the tokens of a text, and refuses the first that no sentence continues with, or the brace of a ninth open body."""
 
     def __init__(self, tokens):
-        self.words = [b"number" if word.startswith(b"number=") else word for word, _, _ in tokens]
-        self.places = [start for _, start, _ in tokens]
-        self.at = 0
+        super().__init__(tokens)
         self.open_bodies = 0
-
-    def sees(self, words, ahead=0):
-        return self.words[self.at + ahead] in words
-
-    def skip(self, words):
-        """Moves past a word that may be missing; whether it was there."""
-        found = self.sees(words)
-        self.at += found
-        return found
-
-    def take(self, words):
-        """Moves past a word that is due."""
-        if not self.skip(words):
-            raise Refused(3, self.places[self.at])
 
     def file(self):
         while not self.sees({b"end"}):
@@ -71,9 +50,9 @@ class Reader:
         self.take(mark(b";"))
 
     def body(self):
-        if self.sees(mark(b"{")) and self.open_bodies == OPEN_BODIES:
-            raise Refused(18, self.places[self.at])
-        self.take(mark(b"{"))
+        brace = self.take(mark(b"{"))
+        if self.open_bodies == OPEN_BODIES:
+            raise Refused(18, brace)
         self.open_bodies += 1
         while not self.skip(mark(b"}")):
             self.element()
@@ -93,8 +72,14 @@ class Reader:
         self.skip(keywords(b"default"))
         self.take(PROPERTY)
         if self.skip(mark(b"=")):
-            self.take(VALUE)
+            self.value()
         self.take(mark(b";"))
+
+    def value(self):
+        if self.sees(OPERAND):
+            self.expression()
+        else:
+            self.take(WORD_VALUE)
 
     def instances(self):
         self.instance()
@@ -104,13 +89,13 @@ class Reader:
     def instance(self):
         self.take(NAME)
         if self.skip(mark(b"[")):
-            self.take(NUMBER)
+            self.expression()
             if self.skip(mark(b":")):
-                self.take(NUMBER)
+                self.expression()
             self.take(mark(b"]"))
         for suffix in (b"=", b"@", b"+=", b"%="):
             if self.skip(mark(suffix)):
-                self.take(NUMBER)
+                self.expression()
 
 
 def sentences_verdict(tokens):
@@ -233,11 +218,50 @@ def suffixes():
     return behind_heads([b"a " + suffix + rest for suffix in one + pairs + several + ranges + numbers for rest in (b"", b", b")])
 
 
+# Every place of a number.
+NUMBER_PLACES = each(b"""reg {} a[#]; | reg {} a[#:0]; | reg {} a[1:#]; | reg {} a = #; | reg {} a @ #; | reg {} a += #; |
+    reg {} a %= #; | reg {} a[#:#] = # @ # += # %= #, b[#]; | reg t { p = #; }; | reg t { default sw = #; T x @ #; };""")
+
+
+def in_number_places(sums):
+    return [place.replace(b"#", text) for text in sums for place in NUMBER_PLACES]
+
+
+def sums():
+    """Sums in each place of a number: each operator with and without its operands, parentheses, and what is no operand."""
+    operators = [form.replace(b"#", operator) for operator in OPERATORS
+                 for form in each(b"1 # 2 | 1#2#3 | 1 # | # 1 | 1 # # 2 | (1 # 2) | (1 #) | (1) # (2) | 1 # a")]
+    texts = each(b"""(1 + 2) * (3 - 1) << 4 | ((1)) | () | ( | ) | (1 | 1) | (1)) | ((1) | )1( | (1) 2 | 1 (2) | (1)(2) | 1 2 | (1;) |
+        (1]) | (1, 2) | (1:2) | (1 = 2) | (1) = 2 | 1 + ( | 1 + ) | 1 + ; | 1 + [2] | - 1 | -(1) | 1 - -1 | 1 = = 2 | 1 <<= 2 |
+        1 + = 2 | 1 % = 2 | 1 += 2 | 1 %= 2 | (1 += 2) | (1 %= 2) | 1 @ 2 | (1 @ 2) | 1 == = 2 | 1 >>> 2 | 1 && 2 | 1 ** 2 | 1 -> 2 |
+        0x10 + 4'd3 | 1 /* + */ 2 | 1 // + 2\n | 1 / /**/ 2""")
+    no_numbers = each(b"""a | reset | "s" | true | false | rw | r | wot | compact | reg | sw | default""")
+    no_operands = [form.replace(b"#", word) for word in no_numbers
+                   for form in each(b"(#) | 1 + # | # + 1 | (# + 1) | # # | # (1) | # * | 1 # 2")]
+    return in_number_places(operators + texts + no_operands)
+
+
+def open_parentheses():
+    """15 to 18 open parentheses in each place of a number, each place counted alone; a 3, and a ninth body, beside the 17th."""
+    texts = []
+    for count in (15, 16, 17, 18):
+        opening, closing = b"(" * count, b")" * count
+        whole = opening + b"1" + closing
+        texts += [whole, whole[:-1], whole + b")", b"1 + " + whole, whole + b" - " + whole, b"(1 + " * count + b"1" + closing]
+        texts += [opening, opening + closing, opening + b"1", opening + b"a", opening[1:] + b"a (", opening[1:] + b"-("]
+        texts += [b"1 " + opening, b"a " + opening]
+    inside = each(b"p = #; | T x @ #; | p = #; reg { | reg {} x; p = #; | reg { p; } x @ #;")
+    bodies = [text.replace(b"#", b"(" * count + b"1" + b")" * count) for depth in (7, 8, 9) for count in (16, 17)
+              for case in inside for text in nested(depth, case)]
+    return in_number_places(texts) + bodies
+
+
+def nested(bodies, inside):
+    return [opening * bodies + inside + closing * bodies for opening, closing in ((b"reg n {", b"};"), (b"reg {", b"} x;"))]
+
+
 def open_bodies():
     """Eight and nine open bodies, and a 3 beside the ninth."""
-    def nested(bodies, inside):
-        return [opening * bodies + inside + closing * bodies for opening, closing in ((b"reg n {", b"};"), (b"reg {", b"} x;"))]
-
     texts = [text for depth in (1, 7, 8, 9, 10, 64) for text in nested(depth, b"")]
     texts += [b"reg a {}; " + text + text + ninth for text, ninth in zip(nested(8, b""), nested(9, b""))]
     inside = each(b"""field {} f; | field f {}; | field f {} g; | field {} f; field {} g; | reg {} a; reg b {}; T x; |
@@ -250,15 +274,15 @@ def open_bodies():
 
 def later_stages():
     """What later stages refuse keeps the grammar: types, properties, values and counts are not judged here."""
-    texts = each(b"""reg t {}; reg t {}; | field f { reg r { addrmap m {}; }; }; | field {} f @ 1 %= 3; | reg {} a[0]; |
-        reg {} a[1:2]; | addrmap m { nothing known; frob = compact; sw = 5; sw; sw; }; | reg r { field {} f[18446744073709551615]; };""")
-    return texts + [b"reg r {};" * count for count in (255, 256, 257, 1000)] + in_body([b"field {} f;" * 300])
+    texts = each(b"""reg t {}; reg t {}; | field f { reg t { addrmap m {}; }; }; | field {} f @ 1 %= 3; | reg {} a[0]; |
+        reg {} a[1:2]; | addrmap m { nothing known; frob = compact; sw = 5; sw; sw; }; | reg t { field {} f[18446744073709551615]; };""")
+    return texts + [b"reg t {};" * count for count in (255, 256, 257, 1000)] + in_body([b"field {} f;" * 300])
 
 
 def order():
     """A bad word goes before every sentence, and a text above 65,536 bytes before both."""
     bad = each(b"""; # | reg {} alias | reg t {}; 0x | 5 5 5 " | T x; /* | reg t {} a[1] [2] mem;""")
-    long_texts = [(b"reg r { " + b"T x, y; p = 1;" * 5000)[:TEXT_LIMIT], (b"reg r { T x; };" * 4000).ljust(TEXT_LIMIT)]
+    long_texts = [(b"reg t { " + b"T x, y; p = 1;" * 5000)[:TEXT_LIMIT], (b"reg t { T x; };" * 4000).ljust(TEXT_LIMIT)]
     return bad + long_texts + [b";".ljust(length) for length in (TEXT_LIMIT, TEXT_LIMIT + 1)]
 
 
@@ -274,7 +298,8 @@ def changed():
     return cases
 
 
-GROUPS = [blanks, root, words_in_places, statements, definitions, instances, suffixes, open_bodies, later_stages, order, changed]
+GROUPS = [blanks, root, words_in_places, statements, definitions, instances, suffixes, sums, open_parentheses, open_bodies, later_stages,
+          order, changed]
 
 
 if __name__ == "__main__":

@@ -1,8 +1,9 @@
 #!/usr/bin/env python3
 """The cases of the word stage: writes crates/word_cases/stdin and the output that is due for it, crates/word_cases/stdout.
 
-The lexer here is a second one, written from document 01, "Words", and the decisions on it, with regular expressions; its author
-had read the crate `lex`, so it checks slips and not readings. (The readings are checked by the conformance vectors.)
+The lexer here is a second one, written from document 01, "Words", the marks of request 1 and the decisions on both, with regular
+expressions; its author had read the crate `lex`, so it checks slips and not readings. (The readings are checked by the conformance
+vectors.)
 stdin: for each case a little-endian u32 length, then the text. stdout: for each case a line with the case's number, the first
 tokens as ` KIND[=VALUE]@START-END`, ` tokens=N` and ` accepted` or ` refused=N at=P`.
 """
@@ -10,6 +11,7 @@ import pathlib
 import re
 import struct
 import sys
+from itertools import product
 
 SHOWN_TOKENS = 12
 TEXT_LIMIT = 65536
@@ -23,7 +25,7 @@ LEFT_OUT = b"""abstract accesstype addressingtype alias all bit boolean bothedge
     signal string struct this type unsigned w1 wuser""".split()
 KEYWORDS = KEPT + LEFT_OUT
 PROPERTIES = b"""sw hw reset onread onwrite rclr rset woclr woset regwidth accesswidth alignment addressing name desc""".split()
-MARKS = [b"{", b"}", b"[", b"]", b";", b":", b",", b"=", b"@", b"+=", b"%="]
+MARKS = b"{ } [ ] ; : , = @ += %= ( ) * / % + - << >> < <= > >= == != & ^ |".split()
 
 # --- the lexer ---
 
@@ -31,7 +33,8 @@ BLANKS = re.compile(rb"([ \t\r\n]|//[^\r\n]*|/\*.*?\*/)*", re.DOTALL)
 NAME = re.compile(rb"[A-Za-z_][A-Za-z0-9_]*")
 NUMBER = re.compile(rb"[0-9][A-Za-z0-9_']*")  # with all that may not follow a number directly
 STRING = re.compile(rb'".*?(?<!\\)"', re.DOTALL)
-MARK = re.compile(rb"[+%]=|[][{};:,=@]")
+UNCLOSED = re.compile(rb'("|/\*).*', re.DOTALL)
+MARK = re.compile(b"|".join(re.escape(mark) for mark in sorted(MARKS, key=len, reverse=True)))
 
 DECIMAL = re.compile(rb"[0-9]+")
 HEX = re.compile(rb"0[xX]([0-9A-Fa-f]+)")
@@ -66,11 +69,15 @@ def string_word(word):
     return b"string" if len(word) - 2 <= STRING_LIMIT else b"bad=malformed"
 
 
+def unclosed_word(_):
+    return b"bad=unclosed"
+
+
 def mark_word(word):
     return b"mark=" + word
 
 
-READERS = [(NAME, name_word), (NUMBER, number_word), (STRING, string_word), (MARK, mark_word)]
+READERS = [(NAME, name_word), (NUMBER, number_word), (STRING, string_word), (UNCLOSED, unclosed_word), (MARK, mark_word)]
 
 
 def next_token(text, at):
@@ -81,8 +88,6 @@ def next_token(text, at):
     for form, word in READERS:
         if match := form.match(text, start):
             return word(match[0]), start, match.end()
-    if text[start:start + 1] == b'"' or text[start:start + 2] == b"/*":
-        return b"bad=unclosed", start, len(text)
     return b"bad=malformed", start, start + 1
 
 
@@ -122,7 +127,7 @@ def classroom():
 
 def bytes_after():
     """Each byte alone, and behind the beginnings of each kind of word."""
-    beginnings = [b"", b"a", b"1", b"0x", b"4'", b"4'b", b"4'd", b"4'h", b"/", b"+", b"%"]
+    beginnings = [b"", b"a", b"1", b"0x", b"4'", b"4'b", b"4'd", b"4'h"] + b"( ) * / % + - < > = ! & ^ | ~ << >> != ==".split()
     return [beginning + byte for beginning in beginnings for byte in EVERY_BYTE]
 
 
@@ -187,8 +192,8 @@ def malformed_numbers():
 
 def number_neighbours():
     """What stands directly behind a number, or before it."""
-    behind = [b'"s"', b'"', b";", b"]", b"{", b"=", b"@1", b"+=2", b"%=2", b"+2", b":0", b",", b" a", b"//", b"/**/a"]
-    behind += [b"/", b".", b"\\", b"\xff"]
+    behind = [b'"s"', b'"', b" a", b"//", b"/**/a", b".", b"\\", b"\xff", b"!", b"~1", b"/*"]
+    behind += MARKS + [mark + b"2" for mark in MARKS]
     before = [b'"s"7', b"a 7", b"]7", b"}0x1", b"a7", b"=4'd5;"]
     return [number + rest for number in (b"7", b"0xF", b"4'd5_") for rest in behind] + before
 
@@ -215,21 +220,24 @@ def comments():
         cases += [b"/*" + body + end for end in (b"*/", b"", b"*", b"/", b"*/a", b"*/*/", b"**/ abstract")]
     cases += [b"/", b"/*/", b"/**/", b"/*/*/", b"/***/", b"/*/ /*/", b"a/", b"a/b", b"a /", b"/ /", b"/ *", b"/ * */", b"*/", b"a/*"]
     cases += [b"a /* b", b"a/**/b", b"1/**/2", b"re/**/g", b"/**//**/a//x\n/*y*/b", b"\"s\"/*", b"*", b"//" + b"".join(EVERY_BYTE)]
-    return cases
+    cases += [b"8//2\n/2", b"8/ /2", b"8/ *2", b"8*/2", b"8/**/ /2", b"8/***//2", b"8 / /*x*/ 2", b"8/ /*", b"(/**/)", b"</**/<"]
+    return cases + [b">//\n="]
 
 
 def marks():
-    """Marks, the longest first, and what is no mark."""
+    """Marks, the longest first, each two next to each other, each three bytes of which a longer one is made; and what is no mark."""
     pairs = [left + right for left in MARKS for right in MARKS]
-    joined = b"""+ % / == :: += %= +== %== =+= =%= ++= %%= +%= -> ( ) # . ` \\ ' ! & | ~ ^ < > ? * - $""".split()
-    parted = [b"+ =", b"% =", b"a+", b"a+=b", b"a%", b"a+/", b"+=+=+=", b"=+", b"=%", b"x->y", b"@+="]
-    return pairs + joined + parted + [b"".join(MARKS), b" ".join(MARKS)]
+    threes = [bytes(three) for three in product(b"<>=!+%/*", repeat=3)]
+    others = b"""# . ` \\ ' ! ~ ? $ && || ** -> <<<< >>>> <<<<= >>>>= ==== !=== !!= ~= a.b a?b:c ~1 !1 1! !(1) 1&&2 2**3 a+=b a%=b @4+=8
+        5%3 x->y sw==r ((1+2)*3)<<4>=5!=6 1<<2>>3""".split()
+    parted = [b"+ =", b"% =", b"< <", b"> >", b"< =", b"> =", b"= =", b"! =", b"5 %=3", b"5 % 3", b"4 + = 8", b"0x100 + 4*3"]
+    return pairs + threes + others + parted + [b"".join(MARKS), b" ".join(MARKS), b" ".join(MARKS[::-1])]
 
 
 def order():
     """The first bad word of the text, whatever its sentences say."""
     sentence = b"addrmap m { reg { field {} f; } r; };"
-    bad = [b"0x", b"alias", b"#", b"\"", b"/*", b"n" * 32, b"4'd16", b"65'd1", b"+"]
+    bad = [b"0x", b"alias", b"#", b"\"", b"/*", b"n" * 32, b"4'd16", b"65'd1", b"!"]
     cases = [first + b" " + second for first in bad for second in bad]
     cases += [sentence, sentence + sentence, b"} } ; ; 5 " + sentence]
     return cases + [before + word + b" ;" for word in bad for before in (sentence, b"} { ; 5 = ", b"reg reg reg ", b"mine " * 13)]

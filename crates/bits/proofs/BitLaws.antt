@@ -1,15 +1,15 @@
 -- The laws of bits, once over the width. Assumes nothing.
 use mathlib.Core.Path.{_≡_, refl, sym, ap, ap₂, _∙_, subst}
-use mathlib.Core.Bool.{Bool, true, false, not, _||_}
-use Prim.Native.Nat.{ℕ, zero, suc, _+_, _-_, _*_, _/_, _%_, _^_, _<_, max}
-use native.Mathlib.Nat.{not-suc-le-zero, zero-add, mul-assoc, add-mul-div-right, add-mul-mod-self-right, mod-eq-of-lt, div-eq-of-lt, mod-lt, zero-lt-suc, pow-suc, zero-max, max-zero, suc-max-suc, mod-one}
+use mathlib.Core.Bool.{Bool, true, false, not, _||_, _&&_}
+use Prim.Native.Nat.{ℕ, zero, suc, _+_, _-_, _*_, _/_, _%_, _^_, _<_, max, min}
+use native.Mathlib.Nat.{not-suc-le-zero, zero-add, mul-assoc, add-mul-div-right, add-mul-mod-self-right, mod-eq-of-lt, div-eq-of-lt, mod-lt, zero-lt-suc, pow-suc, zero-max, max-zero, suc-max-suc, min-le-left, zero-min, min-zero, suc-min-suc, mod-one}
 use native.Mathlib.Omega.{arith}
 use native.Mathlib.Numerals.{add-one, one-add}
 use native.Mathlib.Decide.{decLt}
 use lib.Arith.{digits-mod}
 use lib.Dec.{eqb, eqb·suc-zero}
 use lib.Pow.{pow-pos, pow-add, mod-pow-add}
-use lib.Bits.{bitOr, or-shr, or-step, or-lt}
+use lib.Bits.{bitOr, or-shr, or-step, or-lt, bitAnd, and-shr, and-step, and-lt}
 use Rattle.bits.specs.Bits.{nonzero, digit, bit, number}
 
 nonzero-digit : (b : Bool) → nonzero (digit b) ≡ b
@@ -130,6 +130,32 @@ or-number n f g =
     (or-lt n (number n f) (number n g) (number-lt n f) (number-lt n g)) (number-lt n (λ i. f i || g i))
     (λ i h. bit-or (number n f) (number n g) i ∙ ap₂ (λ (x y : Bool). x || y) (bit-number n f i h) (bit-number n g i h)
     ∙ sym (bit-number n (λ j. f j || g j) i h))
+
+-- ---- the bits that two words share
+
+nonzero-min : (x y : ℕ) → nonzero (min x y) ≡ nonzero x && nonzero y
+nonzero-min zero y = ap nonzero (zero-min y)
+nonzero-min (suc x) zero = ap nonzero (min-zero (suc x))
+nonzero-min (suc x) (suc y) = ap nonzero (suc-min-suc x y)
+
+min-lt : (x y : ℕ) → x < 2 → min x y < 2
+min-lt x y h = omega (arith, min-le-left x y)
+
+bit-and : (a b i : ℕ) → bit (bitAnd a b) i ≡ bit a i && bit b i
+unfolding bit
+bit-and a b i =
+    let p = a / 2 ^ i in
+    let q = b / 2 ^ i in
+    ap (λ (x : ℕ). nonzero (x % 2)) (and-shr a b i ∙ and-step p q)
+    ∙ ap nonzero (digits-mod (bitAnd (p / 2) (q / 2)) (min-lt (p % 2) (q % 2) (low-two p)))
+    ∙ nonzero-min (p % 2) (q % 2)
+
+pub and-number : (n : ℕ) (f g : ℕ → Bool) → bitAnd (number n f) (number n g) ≡ number n (λ i. f i && g i)
+and-number n f g =
+    bit-ext n (bitAnd (number n f) (number n g)) (number n (λ i. f i && g i))
+    (and-lt n (number n f) (number n g) (number-lt n f) (number-lt n g)) (number-lt n (λ i. f i && g i))
+    (λ i h. bit-and (number n f) (number n g) i ∙ ap₂ (λ (x y : Bool). x && y) (bit-number n f i h) (bit-number n g i h)
+    ∙ sym (bit-number n (λ j. f j && g j) i h))
 
 -- one bit more, as a loop adds it
 pub number-more : (f : ℕ → Bool) (i acc r : ℕ) (b : Bool) → acc ≡ number i f → b ≡ f i → r ≡ acc + digit b * 2 ^ i → r ≡ number (i + 1) f

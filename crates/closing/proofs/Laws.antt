@@ -100,7 +100,7 @@ module _ (text t : List ℕ) (x : ℕ) (next : BitPlace) where
     unfolding placedIn
     cell-done b (e, l) f h = rw (← p, ← a, b, ← e, ← f) h
 
-    pub cell-stop : {q : ℕ} → y ≡ instanceReading.Stop q → placed.Other ≡ placedIn text t next x
+    pub cell-stop : {n q : ℕ} → y ≡ instanceReading.Stop n q → placed.Other ≡ placedIn text t next x
     unfolding placedIn
     cell-stop b = rw (← p, ← a, b)
 
@@ -152,7 +152,7 @@ fields-on text t next i to h e f =
     let m : i + 1 ≡ suc i = add-one i in
     rw (n, m, f, e)
 
-fields-none : (text t : List ℕ) (next : BitPlace) (i to : ℕ) → to ≤ i → fieldsInCells text t next i (to - i) ≡ []
+pub fields-none : (text t : List ℕ) (next : BitPlace) (i to : ℕ) → to ≤ i → fieldsInCells text t next i (to - i) ≡ []
 unfolding fieldsInCells
 fields-none text t next i to h = let n : to - i ≡ 0 = omega arith in rw n
 
@@ -236,7 +236,7 @@ module _ (text t : List ℕ) (from to : ℕ) where
           let q : Placed = placedIn text t next (cellOf t i) in
           rw (z, s .split (suc n), m, f, e) (placed-last (fieldsBetween text t from i) q (fieldsInCells text t (bitAbove q next) (suc i) n))
 
-      fields-last : fieldsBetween text t from (i + 1) ≡ fieldsBetween text t from i ++ withPlaced p []
+      pub fields-last : fieldsBetween text t from (i + 1) ≡ fieldsBetween text t from i ++ withPlaced p []
       unfolding fieldsInCells
       fields-last =
           let z : i + 1 - from + 0 ≡ i + 1 - from = omega arith in

@@ -30,7 +30,7 @@ unfolding breaks
 breaks-swapped f g = overlap-swapped f g
 
 -- what is asked of more fields
-some-append : (p : Probe) (fs gs : List FieldAt) → some p (fs ++ gs) ≡ (some p fs || some p gs)
+pub some-append : (p : Probe) (fs gs : List FieldAt) → some p (fs ++ gs) ≡ (some p fs || some p gs)
 unfolding some
 some-append p [] gs = refl
 some-append p (f ∷ fs) gs = rw (some-append p fs gs) (sym (or-assoc (breaks p f) (some p fs) (some p gs)))

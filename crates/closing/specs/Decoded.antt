@@ -1,5 +1,5 @@
 -- What the cells of a body's instances decode to at its closing brace, whatever they hold: the fields of a register, and what is judged.
-use mathlib.Core.Bool.{Bool, false}
+use mathlib.Core.Bool.{Bool, true, false}
 use mathlib.Core.List.{List, []}
 use Prim.Native.Nat.{ℕ, zero, suc, _-_}
 use lib.Dec.{eqb}
@@ -18,6 +18,8 @@ use Rattle.components.specs.declared.Component.{Component}
 use Rattle.components.specs.declared.Component.the-variants as component
 use Rattle.components.specs.declared.Probe.{Probe}
 use Rattle.components.specs.declared.Probe.the-variants.{Overlap}
+use Rattle.cover.specs.Covers.{isNarrow, meetsIn, coverWith}
+use Rattle.cover.specs.declared.Cover.{Cover}
 use Rattle.table.specs.Cells.{cellOf, componentIn, placeIn, rowIn}
 use Rattle.closing.specs.declared.Placed.{Placed}
 use Rattle.closing.specs.declared.Placed.the-variants as placed
@@ -68,6 +70,21 @@ breaksIn probe placed.Other = false
 abbrev pub overlapsEarlier : Placed → List FieldAt → Bool
 overlapsEarlier (placed.Field f) fs = some (Overlap f) fs
 overlapsEarlier placed.Other fs = false
+
+-- whether a cover can hold a field's bits
+abbrev pub isNarrowIn : Placed → Bool
+isNarrowIn (placed.Field f) = isNarrow f
+isNarrowIn placed.Other = true
+
+-- whether some bit of a field is closed to it
+abbrev pub meetsPlaced : Cover → Placed → Bool
+meetsPlaced c (placed.Field f) = meetsIn c f
+meetsPlaced c placed.Other = false
+
+-- with the bits that a field closes to later ones
+abbrev pub coverWithPlaced : Cover → Placed → Cover
+coverWithPlaced c (placed.Field f) = coverWith c f
+coverWithPlaced c placed.Other = c
 
 -- 10 where there is no instance
 abbrev pub missingFault : ℕ → ℕ → ℕ

@@ -5,14 +5,16 @@ use components::FieldAt;
 use components::FieldType;
 use components::Probe;
 use components::Register;
+use cover::Cover;
 use parts::Instance;
 use parts::InstanceReading;
 use parts::Kind;
 use suffixes::Fault;
 ghost use mathlib.Core.Path.{_≡_};
+ghost use mathlib.Core.Bool.{true};
 ghost use Prim.Native.Nat.{_+_, _-_, _*_, _≤_, _<_};
 ghost use Rattle.closing.specs.Registers.{bitAbove, some, overlaps, registerFault, effectFault};
-ghost use Rattle.closing.specs.Decoded.{placedAs, placedIn, fieldsInCells, fieldsBetween, topOf, breaksIn, overlapsEarlier, missingFault, closingIn};
+ghost use Rattle.closing.specs.Decoded.{placedAs, placedIn, fieldsInCells, fieldsBetween, topOf, breaksIn, overlapsEarlier, isNarrowIn, meetsPlaced, coverWithPlaced, missingFault, closingIn};
 
 // A field of a register, or an instance that is none.
 pub enum Placed {
@@ -52,7 +54,7 @@ fn field_in(text: &[u8], cells: &[u64], entry: u64, next: BitPlace) -> Placed
     let component = table::component_at(cells, table::row_in(entry));
     match parts::read_instance(text, table::place_in(entry)) {
         InstanceReading::Done(instance, _) => placed_as(component, next, instance),
-        InstanceReading::Stop(_) => Placed::Other,
+        InstanceReading::Stop(_, _) => Placed::Other,
     }
 }
 
@@ -115,9 +117,8 @@ fn overlaps_earlier(text: &[u8], cells: &[u64], from: usize, to: usize, placed: 
     }
 }
 
-// Whether some field of a register overlaps an earlier one unlawfully. At most two fields share a bit lawfully, so within 64 bits the first
-// 129 fields settle it, however many there are.
-fn any_overlap(text: &[u8], cells: &[u64], from: usize, to: usize) -> bool
+// Whether some field of a register overlaps an earlier one unlawfully, each field against all earlier ones.
+fn any_overlap_by_pairs(text: &[u8], cells: &[u64], from: usize, to: usize) -> bool
     requires { ⌜ to ≤ 131072 ⌝ }
     ensures { λ r. ⌜ r ≡ overlaps (fieldsBetween (now (text .entry)) (now (cells .entry)) from to) ⌝ }
 {
@@ -128,6 +129,63 @@ fn any_overlap(text: &[u8], cells: &[u64], from: usize, to: usize) -> bool
         if overlaps_earlier(text, cells, from, i, placed) {
             return true;
         }
+        next = bit_above(placed, next);
+        i += 1;
+    }
+    false
+}
+
+// Whether a cover can hold a field's bits.
+fn is_narrow_in(placed: Placed) -> bool
+    ensures { λ r. ⌜ r ≡ isNarrowIn placed ⌝ }
+{
+    match placed {
+        Placed::Field(field) => cover::is_narrow(field),
+        Placed::Other => true,
+    }
+}
+
+// Whether some bit of a field is closed to it.
+fn meets_placed(closed: Cover, placed: Placed) -> bool
+    requires { ⌜ isNarrowIn placed ≡ true ⌝ }
+    ensures { λ r. ⌜ r ≡ meetsPlaced closed placed ⌝ }
+{
+    match placed {
+        Placed::Field(field) => cover::meets(closed, field),
+        Placed::Other => false,
+    }
+}
+
+// With the bits that a field closes to later ones.
+fn with_placed(closed: Cover, placed: Placed) -> Cover
+    requires { ⌜ isNarrowIn placed ≡ true ⌝ }
+    ensures { λ r. ⌜ r ≡ coverWithPlaced closed placed ⌝ }
+{
+    match placed {
+        Placed::Field(field) => cover::with_field(closed, field),
+        Placed::Other => closed,
+    }
+}
+
+// Whether some field of a register overlaps an earlier one unlawfully. Each field is read once and held against the bits that the earlier
+// ones close to it. At most two fields share a bit lawfully, so within 64 bits the first 129 fields settle it, however many there are.
+fn any_overlap(text: &[u8], cells: &[u64], from: usize, to: usize) -> bool
+    requires { ⌜ to ≤ 131072 ⌝ }
+    ensures { λ r. ⌜ r ≡ overlaps (fieldsBetween (now (text .entry)) (now (cells .entry)) from to) ⌝ }
+{
+    let mut i = from;
+    let mut next = BitPlace(0);
+    let mut closed = cover::nothing();
+    while i < to {
+        let placed = field_in(text, cells, table::cell(cells, i), next);
+        if !is_narrow_in(placed) {
+            // never reached from a text: 15 is judged before, and no register is wider than 64 bits
+            return any_overlap_by_pairs(text, cells, from, to);
+        }
+        if meets_placed(closed, placed) {
+            return true;
+        }
+        closed = with_placed(closed, placed);
         next = bit_above(placed, next);
         i += 1;
     }

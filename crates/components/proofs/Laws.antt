@@ -9,12 +9,14 @@ use lib.Pow.{shl-exact}
 use borrow.Author.Tests.{eq-eqb, ne-eqb, lt-leb, leb-true, ltb-true}
 use Rattle.chars.specs.Choice.{if_then_else_}
 use Rattle.chars.proofs.Laws.{and-left, and-right, and-false}
+use Rattle.expressions.specs.declared.Number.{Number}
+use Rattle.expressions.specs.declared.Refusal.{Refusal}
+use Rattle.expressions.specs.declared.Refusal.the-variants.{Nowhere, AtOperator}
 use Rattle.parts.specs.declared.Kind.the-variants as kind
 use Rattle.parts.specs.declared.Array.{Array}
 use Rattle.parts.specs.declared.Array.the-variants as array
-use Rattle.parts.specs.declared.Number.{Number}
 use Rattle.parts.specs.declared.Instance.{Instance}
-use Rattle.suffixes.specs.Suffixes.{firstOf, ranged, isSize, isRange, arrayFault, instanceFault}
+use Rattle.suffixes.specs.Suffixes.{firstOf, ranged, settledFault, isSize, isRange, sizeFault, rangeFault, arrayFault, instanceFault}
 use Rattle.suffixes.specs.declared.Fault.{Fault}
 use Rattle.suffixes.specs.declared.Fault.the-variants.{Sound, Broken}
 use Rattle.components.specs.declared.BitPlace.{BitPlace}
@@ -148,29 +150,38 @@ unfolding ranged
 ranged-sound true p e = refl
 ranged-sound false p e = absurd (let z : _≡_ {A = ℕ} 0 1 = cc in omega arith)
 
-size-sound : (n p : ℕ) → ranged (isSize true n) p ≡ Sound → (1 ≤ n) × (n ≤ 64)
-unfolding isSize
-size-sound n p e =
-    let t : (leb 1 n && leb n 64) ≡ true = ranged-sound (isSize true n) p e in
-    (leb-true 1 n (and-left (leb 1 n) (leb n 64) t), leb-true n 64 (and-right (leb 1 n) (leb n 64) t))
+-- a sound number is not refused
+pub settled-sound : (r : Refusal) (x : Fault) → settledFault r x ≡ Sound → x ≡ Sound
+unfolding settledFault
+settled-sound Nowhere x e = e
+settled-sound (AtOperator p) x e = absurd (let z : _≡_ {A = ℕ} 0 1 = cc in omega arith)
 
-range-sound : (left right p : ℕ) → ranged (isRange left right) p ≡ Sound → (right ≤ left) × (left < 64)
+size-sound : (n : Number) → sizeFault true n ≡ Sound → (1 ≤ n .value) × (n .value ≤ 64)
+unfolding isSize
+size-sound n e =
+    let v = n .value in
+    let t : (leb 1 v && leb v 64) ≡ true = ranged-sound (isSize true v) (n .place) (settled-sound (n .refusal) _ e) in
+    (leb-true 1 v (and-left (leb 1 v) (leb v 64) t), leb-true v 64 (and-right (leb 1 v) (leb v 64) t))
+
+range-sound : (left right : Number) → rangeFault left right ≡ Sound → (right .value ≤ left .value) × (left .value < 64)
 unfolding isRange
-range-sound left right p e =
-    let t : (leb right left && ltb left 64) ≡ true = ranged-sound (isRange left right) p e in
-    (leb-true right left (and-left (leb right left) (ltb left 64) t), ltb-true left 64 (and-right (leb right left) (ltb left 64) t))
+range-sound left right e =
+    let l = left .value in
+    let r = right .value in
+    let t : (leb r l && ltb l 64) ≡ true = ranged-sound (isRange l r) (left .place) (settled-sound (right .refusal) _ (settled-sound (left .refusal) _ e)) in
+    (leb-true r l (and-left (leb r l) (ltb l 64) t), ltb-true l 64 (and-right (leb r l) (ltb l 64) t))
 
 width-sound : (a : Array) → arrayFault true a ≡ Sound → (1 ≤ widthIn a) × (widthIn a ≤ 64)
 width-sound array.Missing e = (omega arith, omega arith)
-width-sound (array.Size mark n) e = size-sound (n .value) (n .place) e
+width-sound (array.Size mark n) e = size-sound n e
 width-sound (array.Range mark left right) e =
-    let t : (right .value ≤ left .value) × (left .value < 64) = range-sound (left .value) (right .value) (left .place) e in
+    let t : (right .value ≤ left .value) × (left .value < 64) = range-sound left right e in
     (omega arith, omega arith)
 
 high-sound : (next : BitPlace) (a : Array) → arrayFault true a ≡ Sound → highBit next a .0 ≤ next .0 + 63
 high-sound next array.Missing e = omega arith
-high-sound next (array.Size mark n) e = omega (arith, size-sound (n .value) (n .place) e)
-high-sound next (array.Range mark left right) e = omega (arith, range-sound (left .value) (right .value) (left .place) e)
+high-sound next (array.Size mark n) e = omega (arith, size-sound n e)
+high-sound next (array.Range mark left right) e = omega (arith, range-sound left right e)
 
 pub sound-width : (i : Instance) → instanceFault kind.Field i ≡ Sound → (1 ≤ widthIn (i .array)) × (widthIn (i .array) ≤ 64)
 sound-width i e = width-sound (i .array) (array-sound i e)

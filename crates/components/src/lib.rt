@@ -282,7 +282,8 @@ fn is_read_write(a: u64, b: u64) -> bool
     b == settings::access_code(Access::W)
 }
 
-fn is_pair(a: u64, b: u64) -> bool
+// Whether one access is read-only and the other write-only.
+pub fn is_pair(a: u64, b: u64) -> bool
     ensures { λ r. ⌜ r ≡ isReadWritePair a b ⌝ }
 {
     if is_read_write(a, b) {

@@ -8,6 +8,7 @@ use lib.Dec.{eqb, leb}
 use borrow.Author.Tests.{eq-eqb, ne-eqb, leb-true}
 use Rattle.chars.specs.Choice.{if_then_else_}
 use Rattle.chars.proofs.Laws.{either, and-left, and-right}
+use Rattle.expressions.specs.declared.Number.{Number}
 use Rattle.parts.specs.declared.Kind.{Kind}
 use Rattle.parts.specs.declared.Array.{Array}
 use Rattle.parts.specs.declared.Array.the-variants as array
@@ -15,7 +16,6 @@ use Rattle.parts.specs.declared.Suffix.{Suffix}
 use Rattle.parts.specs.declared.Suffix.the-variants as suffix
 use Rattle.parts.specs.declared.SuffixKind.{SuffixKind}
 use Rattle.parts.specs.declared.SuffixKind.the-variants.{Reset, Address, Stride, Alignment}
-use Rattle.parts.specs.declared.Number.{Number}
 use Rattle.parts.specs.declared.Instance.{Instance}
 use Rattle.settings.specs.Settings.{isField, isAlignment}
 use Rattle.suffixes.specs.Suffixes.{firstOf, isSize, arrayFault, suffixRange, suffixFault, isArray, isBarred, instanceFault}
@@ -26,7 +26,7 @@ use Rattle.components.specs.Components.{startOf}
 use Rattle.components.specs.declared.Offset.{Offset}
 use Rattle.components.specs.declared.Start.{Start}
 use Rattle.components.specs.declared.Start.the-variants as start
-use Rattle.components.proofs.Laws.{first-sound, ranged-sound, later-sound}
+use Rattle.components.proofs.Laws.{first-sound, ranged-sound, settled-sound, later-sound}
 use Rattle.offsets.specs.Offsets.{cap, cut, raised, commonMultiple, powerAbove}
 use Rattle.offsets.proofs.Laws.{cut-bound, cut-capped, cut-positive, cut-low, cut-stays, cut-sum, cut-product, cut-raised, cut-common, cut-power, common-low, above-reaches, alignment-low, alignment-high}
 use Rattle.layout.specs.Layout.{elements, strideOr, strideOf, spanOf, modeStep, stepOr, stepOf, startAfter, laid, cutShape, cutOffset, cutLaid}
@@ -36,7 +36,7 @@ use Rattle.layout.specs.declared.Shape.{Shape}
 -- what a sound instance of a register or regfile says of its numbers
 given-sound : (barred : Bool) (k : SuffixKind) (mark : ℕ) (n : Number) → suffixFault barred k (suffix.Given mark n) ≡ Sound → suffixRange k (n .value) ≡ true
 given-sound true k mark n e = absurd (let z : _≡_ {A = ℕ} 0 1 = cc in omega arith)
-given-sound false k mark n e = ranged-sound (suffixRange k (n .value)) (n .place) e
+given-sound false k mark n e = ranged-sound (suffixRange k (n .value)) (n .place) (settled-sound (n .refusal) _ e)
 
 size-sound : (n : ℕ) → isSize false n ≡ true → (1 ≤ n) × (n ≤ 1024)
 unfolding isSize
@@ -44,7 +44,7 @@ size-sound n t = (leb-true 1 n (and-left (leb 1 n) (leb n 1024) t), leb-true n 1
 
 array-sound : (a : Array) → arrayFault false a ≡ Sound → (1 ≤ elements a) × (elements a ≤ 1024)
 array-sound array.Missing e = (omega arith, omega arith)
-array-sound (array.Size mark n) e = size-sound (n .value) (ranged-sound (isSize false (n .value)) (n .place) e)
+array-sound (array.Size mark n) e = size-sound (n .value) (ranged-sound (isSize false (n .value)) (n .place) (settled-sound (n .refusal) _ e))
 array-sound (array.Range mark left right) e = absurd (let z : _≡_ {A = ℕ} 0 1 = cc in omega arith)
 
 address-range : (n : ℕ) → suffixRange Address n ≡ true → n < cap

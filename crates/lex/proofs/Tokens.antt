@@ -71,23 +71,23 @@ module _ (t : List ℕ) (i : ℕ) where
     string-open f = rw (same-search ∙ f, same-end)
 
   -- the longest mark
-  two : i + 2 - i ≡ 2
-  two = omega arith
+  one-byte : i < length t → take 1 (drop i t) ≡ getD t i 0 ∷ []
+  one-byte h = rw (drop-next t i h)
 
-  one : i + 1 - i ≡ 1
-  one = omega arith
+  two-bytes : i + 1 < length t → take 2 (drop i t) ≡ getD t i 0 ∷ getD t (i + 1) 0 ∷ []
+  two-bytes h = rw (drop-next t i (omega arith), drop-next t (i + 1) h)
 
-  module _ {l : MarkLookup} (e : l ≡ markOf (take (i + 2 - i) (drop i t))) where
+  module _ {l : MarkLookup} (h : i + 1 < length t) (e : l ≡ markOf (getD t i 0 ∷ getD t (i + 1) 0 ∷ [])) where
     pub mark-long : {m : Mark} → l ≡ IsMark m → IsMark m ≡ longer (markOf (take 2 (drop i t))) (markOf (take 1 (drop i t)))
-    mark-long f = rw (sym (rw two at e) ∙ f)
+    mark-long f = rw (two-bytes h, sym e ∙ f)
 
-    pub mark-short : {r : MarkLookup} → l ≡ NoMark → r ≡ markOf (take (i + 1 - i) (drop i t)) → r ≡ longer (markOf (take 2 (drop i t))) (markOf (take 1 (drop i t)))
-    mark-short f g = rw (sym (rw two at e) ∙ f) (rw one at g)
+    pub mark-short : {r : MarkLookup} → l ≡ NoMark → r ≡ markOf (getD t i 0 ∷ []) → r ≡ longer (markOf (take 2 (drop i t))) (markOf (take 1 (drop i t)))
+    mark-short f g = rw (two-bytes h, sym e ∙ f, one-byte (omega arith)) g
 
-  pub mark-last : {r : MarkLookup} → length t ≤ i + 1 → r ≡ markOf (take (i + 1 - i) (drop i t)) → r ≡ longer (markOf (take 2 (drop i t))) (markOf (take 1 (drop i t)))
-  mark-last h g =
+  pub mark-last : {r : MarkLookup} → i < length t → length t ≤ i + 1 → r ≡ markOf (getD t i 0 ∷ []) → r ≡ longer (markOf (take 2 (drop i t))) (markOf (take 1 (drop i t)))
+  mark-last k h g =
       let n : length (drop i t) ≤ 1 = simp length-drop (omega arith) in
-      rw (take-all 2 (drop i t) (omega arith), take-all 1 (drop i t) n) (twice (markOf (drop i t)) (rw (one, take-all 1 (drop i t) n) at g))
+      rw (take-all 2 (drop i t) (omega arith), take-all 1 (drop i t) n) (twice (markOf (drop i t)) (rw (sym (one-byte k) ∙ take-all 1 (drop i t) n) at g))
     where
       twice : (x : MarkLookup) {r : MarkLookup} → r ≡ x → r ≡ longer x x
       twice (IsMark m) e = e

@@ -43,7 +43,9 @@ cases =
     case "Addrmap_2{" Name 0 9 ∷
     case "componentwidth" (Bad cause.LeftOut) 0 14 ∷
     case "+=4" (Mark mark.PlusEquals) 0 2 ∷
-    case "+ =" (Bad cause.Malformed) 0 1 ∷
+    case "+ =" (Mark mark.Plus) 0 1 ∷
+    case "<<=" (Mark mark.ShiftLeft) 0 2 ∷
+    case "! =" (Bad cause.Malformed) 0 1 ∷
     case "\"a\\\"b\";" Quoted 0 6 ∷
     case "\"a\\\"" (Bad cause.Unclosed) 0 4 ∷
     []

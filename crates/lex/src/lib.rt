@@ -244,13 +244,14 @@ fn mark_at(text: &[u8], i: usize) -> MarkLookup
     requires { ⌜ i < length (now text) ⌝ }
     ensures { λ r. ⌜ r ≡ longer (markOf (take 2 (drop i (now (text .entry))))) (markOf (take 1 (drop i (now (text .entry))))) ⌝ }
 {
+    let first = text[i];
     if i + 1 < text.len() {
-        if let MarkLookup::IsMark(m) = vocabulary::mark_of(&text[i..i + 2]) {
+        if let MarkLookup::IsMark(m) = vocabulary::double_mark(first, text[i + 1]) {
             return MarkLookup::IsMark(m);
         }
-        return vocabulary::mark_of(&text[i..i + 1]);
+        return vocabulary::single_mark(first);
     }
-    vocabulary::mark_of(&text[i..i + 1])
+    vocabulary::single_mark(first)
 }
 
 fn mark_token(text: &[u8], i: usize) -> Token

@@ -1,5 +1,5 @@
 -- The judge's answer is the first failing check.
-use mathlib.Core.Bool.{Bool, true, false, _||_, not}
+use mathlib.Core.Bool.{Bool, true, false, _||_, _&&_, not}
 use mathlib.Core.Path.{_≡_, refl, sym, ap, _∙_}
 use mathlib.Core.List.{List, [], _∷_, _++_, map, append-assoc, append-nil}
 use Prim.Native.Nat.{ℕ, zero, suc, _+_}
@@ -8,8 +8,12 @@ use lib.Dec.{leb, ltb}
 use borrow.Author.Tests.{lt-ltb}
 use Rattle.chars.specs.Choice.{if_then_else_}
 use Rattle.vocabulary.specs.Vocabulary.{propertyOf}
+use Rattle.vocabulary.specs.declared.Property.{Property}
 use Rattle.vocabulary.specs.declared.PropertyLookup.{PropertyLookup}
 use Rattle.vocabulary.specs.declared.PropertyLookup.the-variants.{Known, Unknown}
+use Rattle.expressions.specs.declared.Refusal.{Refusal}
+use Rattle.expressions.specs.declared.Refusal.the-variants.{Nowhere, AtOperator}
+use Rattle.expressions.specs.declared.Number.{Number}
 use Rattle.parts.specs.declared.Name.{Name}
 use Rattle.parts.specs.declared.Kind.{Kind}
 use Rattle.parts.specs.declared.Array.{Array}
@@ -22,21 +26,25 @@ use Rattle.parts.specs.declared.Instance.{Instance}
 use Rattle.parts.specs.declared.Header.{Header}
 use Rattle.parts.specs.declared.DefinedName.{DefinedName}
 use Rattle.parts.specs.declared.DefinedName.the-variants.{Unnamed, Named}
+use Rattle.parts.specs.declared.Value.{Value}
+use Rattle.parts.specs.declared.Value.the-variants as value
 use Rattle.parts.specs.declared.Property.{Property as Statement}
-use Rattle.settings.specs.Settings.{isField, isAllowed, slotOf, settingOf, valuePlace}
+use Rattle.settings.specs.Settings.{isField, isAllowed, slotOf, termOf, wantedOf, settingAs, settingOf, valuePlace, valueRefusal, wantedRefusal, refusalIn}
+use Rattle.settings.specs.declared.Wanted.{Wanted}
+use Rattle.settings.specs.declared.Wanted.the-variants as wanted
 use Rattle.settings.specs.declared.Setting.{Setting}
 use Rattle.settings.specs.declared.Setting.the-variants.{Set, Wrong}
 use Rattle.settings.specs.declared.Slot.{Slot}
-use Rattle.suffixes.specs.Suffixes.{firstOf, ranged, isSize, isRange, suffixRange, isBarred, arrayFault, suffixFault, instanceFault}
+use Rattle.suffixes.specs.Suffixes.{firstOf, ranged, settledFault, isSize, isRange, suffixRange, isBarred, rangeFault, arrayFault, suffixFault, instanceFault}
 use Rattle.suffixes.specs.declared.Fault.{Fault}
 use Rattle.suffixes.specs.declared.Fault.the-variants.{Sound, Broken}
 use Rattle.syntax.specs.Tree.{Elem, definition, instances, property, Body, close, more}
 use Rattle.names.specs.Names.{bytesOf, isAmong}
 use Rattle.properties.specs.Judged.{Judged, fault, fine, onward, unless}
 use Rattle.properties.specs.Assigned.{givenIn, isGiven, settingsOf, assigned, nearest, noSettings}
-use Rattle.properties.specs.Properties.{judgeValue, judgeKnown, judgeProperty}
+use Rattle.properties.specs.Properties.{judgeValue, judgeSettled, judgeKnown, judgeProperty}
 use Rattle.properties.specs.declared.Given.{Given}
-use Rattle.properties.specs.declared.Given.the-variants.{Nothing, Number}
+use Rattle.properties.specs.declared.Given.the-variants.{Nothing, Number as Numbered}
 use Rattle.properties.specs.declared.Settings.{Settings}
 use Rattle.properties.specs.declared.Assigned.{Assigned}
 use Rattle.components.specs.Components.{componentOf, kindOf}
@@ -51,7 +59,7 @@ use Rattle.places.specs.declared.Place.{Place}
 use Rattle.places.specs.declared.Place.the-variants.{Root, Inside}
 use Rattle.rules.specs.Limits.{definitionLimit}
 use Rattle.rules.specs.Judge.{State, Known as Facts, opening, withAssigned, withHeld, found, judgeInstances, judgeUse, judgeSetting, typeTwice, namePlace, Made, lastOf, closed, declared, judgeDefinition, judgeElem, judgeBody, meaningOf, judgeFile, judge}
-use Rattle.order.specs.Order.{Check, check, arrayChecks, suffixChecks, instanceChecks, listChecks, heldAfter, Walked, walked, walkUse, isWrong, assignedBy, walkProperty, walkSetting, closeChecks, walkClose, nameChecks, headerChecks, walkDefinition, walkElem, walkBody, mapCheck, fileChecks, checksOf, firstFailing, faultOf}
+use Rattle.order.specs.Order.{Check, check, operatorChecks, isNowhere, numberChecks, arrayChecks, suffixChecks, instanceChecks, listChecks, heldAfter, Walked, walked, walkUse, isWrong, assignedBy, valueChecks, walkProperty, walkSetting, closeChecks, walkClose, nameChecks, headerChecks, walkDefinition, walkElem, walkBody, mapCheck, fileChecks, checksOf, firstFailing, faultOf}
 
 -- what was judged is what was walked: no check fails and the results are the same, or the fault is the first check that fails
 pub data Agrees {A : Type 0} (w : Walked A) : Judged A → Type 0 where
@@ -99,23 +107,38 @@ agrees-then w f (agrees-fine e g) = agrees-fine e (ap f g)
 agrees-then w f (agrees-fault e) = agrees-fault e
 
 -- the suffixes of an instance
-one-check : (b : Bool) (p : ℕ) → firstFailing (check 9 p (not b) ∷ []) ≡ ranged b p
-unfolding firstFailing ranged
-one-check true p = refl
-one-check false p = refl
+number-first : (inside : Bool) (n : Number) → firstFailing (numberChecks inside n) ≡ settledFault (n .refusal) (ranged inside (n .place))
+unfolding firstFailing settledFault ranged
+number-first inside n = by (n .refusal) inside
+  where
+    by : (r : Refusal) (b : Bool) → firstFailing (check 9 (n .place) (isNowhere r && not b) ∷ operatorChecks r) ≡ settledFault r (ranged b (n .place))
+    by Nowhere true = refl
+    by Nowhere false = refl
+    by (AtOperator p) b = refl
+
+range-first : (mark : ℕ) (left right : Number) → firstFailing (arrayChecks true (array.Range mark left right)) ≡ rangeFault left right
+unfolding firstFailing settledFault ranged
+range-first mark left right = by (left .refusal) (right .refusal) (isRange (left .value) (right .value))
+  where
+    by : (l r : Refusal) (b : Bool) → firstFailing (check 9 (left .place) ((isNowhere l && isNowhere r) && not b) ∷ (operatorChecks l ++ operatorChecks r))
+        ≡ settledFault l (settledFault r (ranged b (left .place)))
+    by Nowhere Nowhere true = refl
+    by Nowhere Nowhere false = refl
+    by Nowhere (AtOperator q) b = refl
+    by (AtOperator p) r b = refl
 
 array-first : (field : Bool) (a : Array) → firstFailing (arrayChecks field a) ≡ arrayFault field a
 unfolding firstFailing
 array-first field array.Missing = refl
-array-first field (array.Size mark n) = one-check (isSize field (n .value)) (n .place)
-array-first true (array.Range mark left right) = one-check (isRange (left .value) (right .value)) (left .place)
+array-first field (array.Size mark n) = number-first (isSize field (n .value)) n
+array-first true (array.Range mark left right) = range-first mark left right
 array-first false (array.Range mark left right) = refl
 
 suffix-first : (barred : Bool) (s : SuffixKind) (x : Suffix) → firstFailing (suffixChecks barred s x) ≡ suffixFault barred s x
 unfolding firstFailing
 suffix-first barred s suffix.Missing = refl
 suffix-first true s (suffix.Given mark n) = refl
-suffix-first false s (suffix.Given mark n) = one-check (suffixRange s (n .value)) (n .place)
+suffix-first false s (suffix.Given mark n) = number-first (suffixRange s (n .value)) n
 
 instance-first : (k : Kind) (i : Instance) → firstFailing (instanceChecks k i) ≡ instanceFault k i
 unfolding instanceChecks instanceFault
@@ -149,26 +172,59 @@ list-agrees text b k n (i ∷ is) held =
 use-agrees : (text : List ℕ) (b : Place) (n : Name) (is : List Instance) (s : State) (g : Given) → Agrees (walkUse text b n is s g) (judgeUse text b n is s g)
 unfolding walkUse judgeUse firstFailing
 use-agrees text b n is s Nothing = agrees-fault refl
-use-agrees text b n is s (Number d) =
+use-agrees text b n is s (Numbered d) =
     let k = kindOf (definitionOf (s .known .table) d .component) in
     agrees-then (walked (listChecks text b k d is (s .held)) (heldAfter d is (s .held))) (λ (cs : List Child). withHeld s cs) (list-agrees text b k d is (s .held))
 
-value-agrees : (a : Assigned) (p : Statement) (l : Slot) (x : Setting)
-    → Agrees (walked (check 9 (valuePlace (p .start) (p .value)) (isWrong x) ∷ []) (assignedBy x (p .defaulted) a l)) (judgeValue a p l x)
-unfolding judgeValue firstFailing
-value-agrees a p l (Set n) = agrees-fine refl refl
-value-agrees a p l Wrong = agrees-fault refl
+-- a value that is set has the refusal of its number; one that is refused where a number is wanted is that number
+set-refusal : (w : Wanted) (v : Value) {n : ℕ} → settingAs w (termOf v) ≡ Set n → wantedRefusal w (valueRefusal v) ≡ valueRefusal v
+unfolding settingAs
+set-refusal (wanted.Listed l) value.Missing e = refl
+set-refusal (wanted.Listed l) (value.Number x) e = absurd (let z : _≡_ {A = ℕ} 0 1 = cc in omega arith)
+set-refusal (wanted.Listed l) (value.String p) e = refl
+set-refusal (wanted.Listed l) (value.Word k p) e = refl
+set-refusal (wanted.Short c) value.Missing e = refl
+set-refusal (wanted.Short c) (value.Number x) e = absurd (let z : _≡_ {A = ℕ} 0 1 = cc in omega arith)
+set-refusal (wanted.Short c) (value.String p) e = refl
+set-refusal (wanted.Short c) (value.Word k p) e = refl
+set-refusal wanted.AnyNumber v e = refl
+set-refusal wanted.Width v e = refl
+set-refusal wanted.Alignment v e = refl
+set-refusal wanted.String value.Missing e = refl
+set-refusal wanted.String (value.Number x) e = absurd (let z : _≡_ {A = ℕ} 0 1 = cc in omega arith)
+set-refusal wanted.String (value.String p) e = refl
+set-refusal wanted.String (value.Word k p) e = refl
+
+wanted-refused : (w : Wanted) (r : Refusal) {place : ℕ} → wantedRefusal w r ≡ AtOperator place → r ≡ AtOperator place
+wanted-refused (wanted.Listed l) r e = absurd (let z : _≡_ {A = ℕ} 0 1 = cc in omega arith)
+wanted-refused (wanted.Short c) r e = absurd (let z : _≡_ {A = ℕ} 0 1 = cc in omega arith)
+wanted-refused wanted.AnyNumber r e = e
+wanted-refused wanted.Width r e = e
+wanted-refused wanted.Alignment r e = e
+wanted-refused wanted.String r e = absurd (let z : _≡_ {A = ℕ} 0 1 = cc in omega arith)
+
+settled-agrees : (a : Assigned) (p : Statement) (l : Slot) (q : Property)
+    → Agrees (walked (valueChecks q p) (assignedBy (settingOf q (p .value)) (p .defaulted) a l)) (judgeSettled a p l (refusalIn q (p .value)) (settingOf q (p .value)))
+unfolding judgeValue firstFailing settingOf refusalIn
+settled-agrees a p l q =
+    by (refusalIn q (p .value)) (valueRefusal (p .value)) (settingOf q (p .value)) (λ n e. set-refusal (wantedOf q) (p .value) e) (λ place e. wanted-refused (wantedOf q) (valueRefusal (p .value)) e)
+  where
+    by : (r o : Refusal) (x : Setting) → ((n : ℕ) → x ≡ Set n → r ≡ o) → ((place : ℕ) → r ≡ AtOperator place → o ≡ AtOperator place)
+        → Agrees (walked (check 9 (valuePlace (p .start) (p .value)) (isNowhere r && isWrong x) ∷ operatorChecks o) (assignedBy x (p .defaulted) a l)) (judgeSettled a p l r x)
+    by Nowhere o (Set n) f g = let e : Nowhere ≡ o = f n refl in rw (← e) (agrees-fine refl refl)
+    by Nowhere o Wrong f g = agrees-fault refl
+    by (AtOperator place) o x f g = rw (g place refl) (agrees-fault refl)
 
 known-agrees : (k : Kind) (s : State) (p : Statement) (x : PropertyLookup) → Agrees (walkProperty k s p x) (onward (judgeKnown k (s .assigned) p x) (λ a. fine (withAssigned s a)))
 unfolding walkProperty judgeKnown onward firstFailing
 known-agrees k s p Unknown = agrees-fault refl
 known-agrees k s p (Known q) =
     let v = assignedBy (settingOf q (p .value)) (p .defaulted) (s .assigned) (slotOf q) in
-    let c = check 9 (valuePlace (p .start) (p .value)) (isWrong (settingOf q (p .value))) in
+    let cs : List Check = valueChecks q p in
     let g = isGiven (givenIn (settingsOf (p .defaulted) (s .assigned)) (slotOf q)) in
-    agrees-then (walked (check 7 (p .start) (not (isAllowed (p .defaulted) q k)) ∷ check 8 (p .start) g ∷ c ∷ []) v) (λ (a : Assigned). withAssigned s a)
-    (agrees-unless (not (isAllowed (p .defaulted) q k)) 7 (p .start) (walked (check 8 (p .start) g ∷ c ∷ []) v)
-    (agrees-unless g 8 (p .start) (walked (c ∷ []) v) (value-agrees (s .assigned) p (slotOf q) (settingOf q (p .value)))))
+    agrees-then (walked (check 7 (p .start) (not (isAllowed (p .defaulted) q k)) ∷ check 8 (p .start) g ∷ cs) v) (λ (a : Assigned). withAssigned s a)
+    (agrees-unless (not (isAllowed (p .defaulted) q k)) 7 (p .start) (walked (check 8 (p .start) g ∷ cs) v)
+    (agrees-unless g 8 (p .start) (walked cs v) (settled-agrees (s .assigned) p (slotOf q) q)))
 
 setting-agrees : (text : List ℕ) (b : Place) (s : State) (p : Statement) → Agrees (walkSetting text b s p) (judgeSetting text b s p)
 unfolding walkSetting judgeSetting judgeProperty firstFailing
@@ -260,7 +316,7 @@ mutual
 map-first : (k : Facts) (g : Given) (p : ℕ) → faultOf (meaningOf k g p) ≡ firstFailing (mapCheck g p ∷ [])
 unfolding firstFailing
 map-first k Nothing p = refl
-map-first k (Number d) p = refl
+map-first k (Numbered d) p = refl
 
 onward-first : {A B : Type 0} (w : Walked A) {j : Judged A} (k : A → Judged B) (cs : List Check) → Agrees w j → faultOf (k (w .result)) ≡ firstFailing cs → faultOf (onward j k) ≡ firstFailing (w .checks ++ cs)
 unfolding onward

@@ -24,10 +24,16 @@ use Rattle.vocabulary.specs.declared.Mark.{Mark}
 use Rattle.vocabulary.specs.declared.Mark.the-variants as mark
 use Rattle.vocabulary.specs.declared.PropertyLookup.{PropertyLookup}
 use Rattle.vocabulary.specs.declared.PropertyLookup.the-variants.{Known, Unknown}
-use Rattle.parts.specs.Reading.{Parsed, ok, stop, andThen, mapped}
+use Rattle.expressions.specs.declared.Refusal.{Refusal}
+use Rattle.expressions.specs.declared.Refusal.the-variants.{Nowhere, AtOperator}
+use Rattle.expressions.specs.declared.Number.{Number}
+use Rattle.expressions.specs.Grammar.{numberAt}
+use Rattle.expressions.proofs.Readings.{Holds, holds-ok, holds-stop, holds-of, holds-more, holds-mapped, holds-then}
+use Rattle.expressions.proofs.Faults.{NumberLies}
+use Rattle.expressions.proofs.Ends.{number-holds}
+use Rattle.parts.specs.Reading.{Parsed, ok, stop, mapped}
 use Rattle.parts.specs.Words.{roleOf, roleValue, isName, kindOf, isKind, isDefault, isProperty, isMark, isEnd}
-use Rattle.parts.specs.Parts.{closedBy, nameAt, numberIn, numberAt, arrayRestAt, arrayAt, suffixMark, suffixAt, bare, setSuffix, withSuffix, bareAt, instanceAt, partedAt, listedAt, valueIn, valueOr, valueAt, property, settingAt, propertyWordAt, propertyAt, headerRestAt, headerOf, headerAt, isNamed, startsInstances}
-use Rattle.parts.specs.declared.Number.{Number}
+use Rattle.parts.specs.Parts.{closedBy, nameAt, arrayRestAt, arrayAt, suffixMark, suffixAt, bare, setSuffix, withSuffix, bareAt, instanceAt, partedAt, listedAt, valueIn, valueOr, valueAt, property, settingAt, propertyWordAt, propertyAt, headerRestAt, headerOf, headerAt, isNamed, startsInstances}
 use Rattle.parts.specs.declared.Name.{Name}
 use Rattle.parts.specs.declared.Array.{Array}
 use Rattle.parts.specs.declared.Array.the-variants as array
@@ -49,7 +55,7 @@ use Rattle.parts.specs.declared.KindLookup.the-variants.{IsKind, NoKind}
 use Rattle.parts.specs.declared.DefinedName.the-variants.{Unnamed, Named}
 use Rattle.parts.specs.declared.Header.{Header}
 use Rattle.parts.proofs.Ends.{Ends, ends-of}
-use Rattle.settings.specs.Settings.{isField, valuePlace}
+use Rattle.settings.specs.Settings.{isField, valuePlace, valueRefusal}
 use Rattle.suffixes.specs.Suffixes.{isBarred}
 use Rattle.syntax.specs.Limits.{bodyLimit}
 use Rattle.syntax.specs.Tree.{Elem, definition, instances, property as setting, Body, close, more}
@@ -67,7 +73,7 @@ use Rattle.names.specs.Names.{bytesOf}
 use Rattle.places.specs.declared.Place.{Place}
 use Rattle.places.specs.declared.Place.the-variants.{Root, Inside}
 use Rattle.rules.specs.Judge.{State, opening}
-use Rattle.order.specs.Order.{Check, check, arrayChecks, suffixChecks, instanceChecks, listChecks, walkUse, walkProperty, walkSetting, closeChecks, walkClose, headerChecks, walkDefinition, walkElem, walkBody, fileChecks, checksOf, In, in-here, in-later, Ordered, ordered-none, ordered-on}
+use Rattle.order.specs.Order.{Check, check, operatorChecks, rangeOperators, arrayChecks, suffixChecks, instanceChecks, listChecks, walkUse, walkProperty, walkSetting, closeChecks, walkClose, headerChecks, walkDefinition, walkElem, walkBody, fileChecks, checksOf, In, in-here, in-later, Ordered, ordered-none, ordered-on}
 
 -- Checks that rise from `low` on and stay below `high`, by place and then by number: no number reaches 32, so one natural number ranks both.
 pub data Rises : ℕ → List Check → ℕ → Type 0 where
@@ -110,34 +116,11 @@ rises-ordered : {low high : ℕ} {cs : List Check} → Rises low cs high → Ord
 rises-ordered (rises-none h) = ordered-none
 rises-ordered (rises-on {n = n} {p = p} a b r) = ordered-on (λ d i. let w = rises-in r i in ranked n p (d .number) (d .place) b (w .1) (w .0)) (rises-ordered r)
 
--- a reading whose piece and end have a property, or a refusal
-data Holds {A : Type 0} (P : A → ℕ → Type 0) : Parsed A → Type 0 where
-  holds-ok : {a : A} {n : ℕ} → P a n → Holds P (ok a n)
-  holds-stop : {n p : ℕ} → Holds P (stop n p)
-
-holds-here : {A : Type 0} {P : A → ℕ → Type 0} {a : A} {n : ℕ} → Holds P (ok a n) → P a n
-holds-here (holds-ok h) = h
-
-holds-of : {A : Type 0} {P : A → ℕ → Type 0} {p : Parsed A} {a : A} {n : ℕ} → Holds P p → p ≡ ok a n → P a n
-holds-of h e = holds-here (rw e at h)
-
-holds-more : {A : Type 0} {P Q : A → ℕ → Type 0} {p : Parsed A} → ((a : A) (n : ℕ) → P a n → Q a n) → Holds P p → Holds Q p
-holds-more f (holds-ok {a = a} {n = n} h) = holds-ok (f a n h)
-holds-more f holds-stop = holds-stop
-
-holds-mapped : {A B : Type 0} {P : A → ℕ → Type 0} {Q : B → ℕ → Type 0} (g : A → B) {p : Parsed A} → ((a : A) (n : ℕ) → P a n → Q (g a) n) → Holds P p → Holds Q (mapped g p)
-unfolding mapped
-holds-mapped g f (holds-ok {a = a} {n = n} h) = holds-ok (f a n h)
-holds-mapped g f holds-stop = holds-stop
-
-holds-then : {A B : Type 0} {P : A → ℕ → Type 0} {Q : B → ℕ → Type 0} {p : Parsed A} {k : A → ℕ → Parsed B} → Holds P p → ((a : A) (n : ℕ) → P a n → Holds Q (k a n)) → Holds Q (andThen p k)
-unfolding andThen
-holds-then (holds-ok {a = a} {n = n} h) f = f a n h
-holds-then holds-stop f = holds-stop
-
 -- what each part's places are, read from `at` to `n`
-abbrev Numbers : ℕ → Number → ℕ → Type 0
-Numbers at x n = (at ≤ x .place) × (x .place < n)
+record Numbers (at : ℕ) (x : Number) (n : ℕ) : Type 0 where
+  pub first : at ≤ x .place
+  pub before : x .place < n
+  pub operators : Rises (suc (x .place) * 32) (operatorChecks (x .refusal)) (n * 32)
 
 abbrev Names : ℕ → Name → ℕ → Type 0
 Names at x n = (at ≤ x .start) × (x .start < n)
@@ -164,13 +147,14 @@ record Placed (at : ℕ) (i : Instance) (n : ℕ) : Type 0 where
 abbrev Listing : ℕ → List Instance → ℕ → Type 0
 Listing at is n = (text : List ℕ) (b : Place) (k : Kind) (d : ℕ) (held : List Child) → Rises (at * 32) (listChecks text b k d is held) (n * 32)
 
-abbrev Values : ℕ → Value → ℕ → Type 0
-Values at v n = (p : ℕ) → (at ≤ valuePlace p v) × (valuePlace p v < n)
+record Values (at : ℕ) (v : Value) (n q : ℕ) : Type 0 where
+  pub first : at ≤ valuePlace q v
+  pub before : valuePlace q v < n
+  pub operators : Rises (suc (valuePlace q v) * 32) (operatorChecks (valueRefusal v)) (n * 32)
 
 record Set (at : ℕ) (p : Statement) (n : ℕ) : Type 0 where
   pub start : at ≤ p .start
-  pub value : p .start ≤ valuePlace (p .start) (p .value)
-  pub inside : valuePlace (p .start) (p .value) < n
+  pub value : Values (p .start) (p .value) n (p .start)
 
 abbrev Headed : ℕ → Header → ℕ → Type 0
 Headed at h n = (text : List ℕ) (b : Place) (s : State) → Rises (at * 32) (headerChecks text b s h) (n * 32)
@@ -220,55 +204,68 @@ module _ (t : List ℕ) where
   unfolding nameAt
   name-holds at = either (Holds (Names at)) (isName (tokenAt t at .word)) (λ y. holds-ok (name-lies at y)) (λ _. holds-stop)
 
-  number-in : (at p e : ℕ) (w : Word) → ((w ≡ word.End → ⊥) → (at ≤ p) × (p < e)) → Holds (Numbers at) (numberIn w p e)
-  number-in at p e word.End f = holds-stop
-  number-in at p e word.Name f = holds-stop
-  number-in at p e (word.Keyword k) f = holds-stop
-  number-in at p e (word.Number n) f = holds-ok (f (λ z. let o : _≡_ {A = ℕ} 0 1 = cc in omega arith))
-  number-in at p e word.String f = holds-stop
-  number-in at p e (word.Mark m) f = holds-stop
-  number-in at p e (word.Bad c) f = holds-stop
+  operator-rises : (r : Refusal) (low n : ℕ) → low ≤ n → ((p : ℕ) → r ≡ AtOperator p → (low ≤ p) × (p < n)) → Rises (low * 32) (operatorChecks r) (n * 32)
+  operator-rises Nowhere low n l f = rises-none {low = low * 32} {high = n * 32} (omega arith)
+  operator-rises (AtOperator p) low n l f = let w = f p refl in on 9 p true (omega arith) (omega arith) (rises-none (omega arith))
 
-  number-holds : (at : ℕ) → Holds (Numbers at) (numberAt t at)
-  unfolding numberAt
-  number-holds at = number-in at (tokenAt t at .start) (tokenAt t at .end) (tokenAt t at .word) (token-lies at)
+  numbers-hold : (at : ℕ) → Holds (Numbers at) (numberAt t at)
+  numbers-hold at = holds-more lies (number-holds t at)
+    where
+      lies : (x : Number) (n : ℕ) → NumberLies t at x n → Numbers at x n
+      lies x n h = record { first = h .first; before = h .before; operators = operator-rises (x .refusal) (suc (x .place)) n (h .before) (λ p e. h .operator p e) }
+
+  numbers-behind : {low at : ℕ} {x : Number} {n : ℕ} → low ≤ at → Numbers at x n → Numbers low x n
+  numbers-behind l h = record { first = omega (arith, h .first); before = h .before; operators = h .operators }
+
+  numbers-on : {at : ℕ} {x : Number} {n m : ℕ} → n ≤ m → Numbers at x n → Numbers at x m
+  numbers-on l h = record { first = h .first; before = omega (arith, h .before); operators = rises-high (omega arith) (h .operators) }
 
   -- an array
-  array-size : (low p : ℕ) (left : Number) (n : ℕ) → low ≤ left .place → left .place < n → Arrays low (array.Size p left) n
-  array-size low p left n a b field = on 9 (left .place) _ (omega arith) (omega arith) (rises-none (omega arith))
+  array-size : (low p : ℕ) (left : Number) (n : ℕ) {m : ℕ} → low ≤ p → Numbers (suc p) left n → n ≤ m → Arrays low (array.Size p left) m
+  array-size low p left n a h l field = on 9 (left .place) _ (omega (arith, h .first)) (omega arith) (rises-low (omega arith) (rises-high (omega arith) (h .operators)))
 
-  array-range : (low p : ℕ) (left right : Number) (n : ℕ) → low ≤ p → p < left .place → left .place < n → Arrays low (array.Range p left right) n
-  array-range low p left right n a b c true = on 9 (left .place) _ (omega arith) (omega arith) (rises-none (omega arith))
-  array-range low p left right n a b c false = on 11 p _ (omega arith) (omega arith) (rises-none (omega arith))
+  -- the operators of a range behind its left number's first byte
+  range-operators : (p : ℕ) (left right : Number) (mid n m : ℕ) → Numbers (suc p) left mid → Numbers mid right n → n ≤ m
+      → Rises (suc (left .place) * 32) (rangeOperators left right) (m * 32)
+  range-operators p left right mid n m h k l =
+      rises-append (h .operators) (rises-low (omega (arith, k .first)) (rises-high (omega arith) (k .operators)))
 
-  array-rest-holds : (low p : ℕ) (left : Number) (at : ℕ) → low ≤ p → p < left .place → left .place < at → Holds (Arrays low) (arrayRestAt p left t at)
+  array-range : (low p : ℕ) (left right : Number) (mid n m : ℕ) → low ≤ p → Numbers (suc p) left mid → Numbers mid right n → n ≤ m → Arrays low (array.Range p left right) m
+  array-range low p left right mid n m a h k l true =
+      on 9 (left .place) _ (omega (arith, h .first)) (omega arith) (rises-low (omega arith) (range-operators p left right mid n m h k l))
+  array-range low p left right mid n m a h k l false =
+      on 11 p _ (omega arith) (omega arith) (rises-low (omega (arith, h .first)) (range-operators p left right mid n m h k l))
+
+  array-rest-holds : (low p : ℕ) (left : Number) (at : ℕ) → low ≤ p → Numbers (suc p) left at → Holds (Arrays low) (arrayRestAt p left t at)
   unfolding arrayRestAt
-  array-rest-holds low p left at a b c =
+  array-rest-holds low p left at a h =
       let E = Holds (Arrays low) in
-      either E (isMark mark.CloseBracket (tokenAt t at .word)) (λ y. holds-ok (array-size low p left (tokenAt t at .end) (omega arith) (omega (arith, mark-lies mark.CloseBracket at y))))
+      either E (isMark mark.CloseBracket (tokenAt t at .word)) (λ y. holds-ok (array-size low p left at a h (omega (arith, mark-lies mark.CloseBracket at y))))
       (λ _. either E (isMark mark.Colon (tokenAt t at .word))
-      (λ y. holds-then (number-holds (tokenAt t at .end)) (λ right n h.
-      closed-holds mark.CloseBracket (array.Range p left right) n (λ m l. array-range low p left right m a b (omega (arith, mark-lies mark.Colon at y, h, l)))))
+      (λ y. holds-then (numbers-hold (tokenAt t at .end)) (λ right n k.
+      closed-holds mark.CloseBracket (array.Range p left right) n (λ m l. array-range low p left right (tokenAt t at .end) n m a (numbers-on (omega (arith, mark-lies mark.Colon at y)) h) k (omega arith))))
       (λ _. holds-stop))
 
   array-holds : (low at : ℕ) → low ≤ at → Holds (Arrays low) (arrayAt t at)
   unfolding arrayAt
   array-holds low at l =
       either (Holds (Arrays low)) (isMark mark.OpenBracket (tokenAt t at .word))
-      (λ y. let w = mark-lies mark.OpenBracket at y in holds-then (number-holds (tokenAt t at .end)) (λ left n h.
-      array-rest-holds low (tokenAt t at .start) left n (omega (arith, w)) (omega (arith, w, h)) (h .1)))
+      (λ y. let w = mark-lies mark.OpenBracket at y in holds-then (numbers-hold (tokenAt t at .end)) (λ left n h.
+      array-rest-holds low (tokenAt t at .start) left n (omega (arith, w)) (numbers-behind (w .1) h)))
       (λ _. holds-ok (λ field. rises-none (omega arith)))
 
   -- a suffix
-  suffix-given : (at p : ℕ) (x : Number) (n : ℕ) → at ≤ p → p < x .place → x .place < n → Suffixed at (suffix.Given p x) n
-  suffix-given at p x n a b c barred s = on 11 p _ (omega arith) (omega arith) (on 9 (x .place) _ (omega arith) (omega arith) (rises-none (omega arith)))
+  suffix-given : (at p : ℕ) (x : Number) (n : ℕ) → at ≤ p → Numbers (suc p) x n → Suffixed at (suffix.Given p x) n
+  suffix-given at p x n a h barred s =
+      on 11 p _ (omega arith) (omega arith)
+      (on 9 (x .place) _ (omega (arith, h .first)) (omega arith) (rises-low (omega arith) (h .operators)))
 
   suffix-holds : (s : SuffixKind) (at : ℕ) → Holds (Suffixed at) (suffixAt s t at)
   unfolding suffixAt
   suffix-holds s at =
       either (Holds (Suffixed at)) (isMark (suffixMark s) (tokenAt t at .word))
       (λ y. let w = mark-lies (suffixMark s) at y in
-      holds-mapped (suffix.Given (tokenAt t at .start)) (λ x n h. suffix-given at (tokenAt t at .start) x n (w .0) (omega (arith, w, h)) (h .1)) (number-holds (tokenAt t at .end)))
+      holds-mapped (suffix.Given (tokenAt t at .start)) (λ x n h. suffix-given at (tokenAt t at .start) x n (w .0) (numbers-behind (w .1) h)) (numbers-hold (tokenAt t at .end)))
       (λ _. holds-ok (λ barred k. rises-none (omega arith)))
 
   -- an instance
@@ -370,45 +367,50 @@ module _ (t : List ℕ) where
       (λ y. holds-ok (list-none at (tokenAt t at .end) (omega (arith, mark-lies mark.Semicolon at (and-right named _ y))))) (λ _. instances-holds at)
 
   -- a property statement
-  value-in-place : (w : Word) (p q : ℕ) {v : Value} → valueIn w p ≡ IsValue v → (valuePlace q v ≡ p) × (w ≡ word.End → ⊥)
+  value-in-place : (w : Word) (p q : ℕ) {v : Value} → valueIn w p ≡ IsValue v → ((valuePlace q v ≡ p) × (valueRefusal v ≡ Nowhere)) × (w ≡ word.End → ⊥)
   value-in-place w p q {v} e = (by w e, λ z. let f : NoValue ≡ IsValue v = rw z at e in let o : _≡_ {A = ℕ} 0 1 = cc in omega arith)
     where
       none : {X : Type 0} → NoValue ≡ IsValue v → X
       none f = absurd (let o : _≡_ {A = ℕ} 0 1 = cc in omega arith)
 
-      chosen : (k : Keyword) (b : Bool) → (if b then IsValue (value.Word k p) else NoValue) ≡ IsValue v → valuePlace q v ≡ p
-      chosen k true f = let z : value.Word k p ≡ v = cc in rw (← z)
+      chosen : (k : Keyword) (b : Bool) → (if b then IsValue (value.Word k p) else NoValue) ≡ IsValue v → (valuePlace q v ≡ p) × (valueRefusal v ≡ Nowhere)
+      chosen k true f = let z : value.Word k p ≡ v = cc in rw (← z) (refl, refl)
       chosen k false f = none f
 
-      by : (w : Word) → valueIn w p ≡ IsValue v → valuePlace q v ≡ p
+      by : (w : Word) → valueIn w p ≡ IsValue v → (valuePlace q v ≡ p) × (valueRefusal v ≡ Nowhere)
       by word.End f = none f
       by word.Name f = none f
       by (word.Keyword k) f = chosen k (roleValue (roleOf k)) f
       by (word.Number n) f = none f
-      by word.String f = let z : value.String p ≡ v = cc in rw (← z)
+      by word.String f = let z : value.String p ≡ v = cc in rw (← z) (refl, refl)
       by (word.Mark m) f = none f
       by (word.Bad c) f = none f
 
-  value-holds : (at : ℕ) → Holds (Values at) (valueAt t at)
+  value-holds : (at q : ℕ) → Holds (λ v n. Values at v n q) (valueAt t at)
   unfolding valueAt
-  value-holds at = by (valueIn (tokenAt t at .word) (tokenAt t at .start)) refl
+  value-holds at q = by (valueIn (tokenAt t at .word) (tokenAt t at .start)) refl
     where
-      by : (x : ValueLookup) → valueIn (tokenAt t at .word) (tokenAt t at .start) ≡ x → Holds (Values at) (valueOr x (tokenAt t at .end) (mapped value.Number (numberAt t at)))
+      by : (x : ValueLookup) → valueIn (tokenAt t at .word) (tokenAt t at .start) ≡ x → Holds (λ v n. Values at v n q) (valueOr x (tokenAt t at .end) (mapped value.Number (numberAt t at)))
       by (IsValue v) e =
-          holds-ok {a = v} {n = tokenAt t at .end} (λ q.
           let w = value-in-place (tokenAt t at .word) (tokenAt t at .start) q e in
           let l = token-lies at (w .1) in
-          (omega (arith, w .0, l), omega (arith, w .0, l)))
-      by NoValue e = holds-mapped value.Number (λ x n h q. h) (number-holds at)
+          holds-ok {a = v} {n = tokenAt t at .end}
+          (record { first = omega (arith, w .0 .0, l); before = omega (arith, w .0 .0, l); operators = rw (w .0 .1) (rises-none {low = suc (valuePlace q v) * 32} {high = tokenAt t at .end * 32} (omega (arith, w .0 .0, l))) })
+      by NoValue e = holds-mapped value.Number (λ x n h. record { first = h .first; before = h .before; operators = h .operators }) (numbers-hold at)
 
   setting-holds : (low : ℕ) (d : Bool) (w : Token) (at : ℕ) → low ≤ w .start → w .start < at → Holds (Set low) (settingAt d w t at)
   unfolding settingAt
   setting-holds low d w at a b =
-      either (Holds (Set low)) (isMark mark.Semicolon (tokenAt t at .word)) (λ y. holds-ok (record { start = a; value = omega arith; inside = omega (arith, mark-lies mark.Semicolon at y) }))
+      either (Holds (Set low)) (isMark mark.Semicolon (tokenAt t at .word))
+      (λ y. let l = mark-lies mark.Semicolon at y in
+      holds-ok (record { start = a; value = record { first = omega arith; before = omega (arith, l); operators = rises-none (omega (arith, l)) } }))
       (λ _. either (Holds (Set low)) (isMark mark.Equals (tokenAt t at .word))
-      (λ y. holds-then (value-holds (tokenAt t at .end)) (λ v n h.
+      (λ y. holds-then (value-holds (tokenAt t at .end) (w .start)) (λ v n h.
       closed-holds mark.Semicolon (property d w v) n (λ m l.
-      record { start = a; value = omega (arith, mark-lies mark.Equals at y, h (w .start)); inside = omega (arith, h (w .start), l) })))
+      record {
+        start = a;
+        value = record { first = omega (arith, mark-lies mark.Equals at y, h .first); before = omega (arith, h .before); operators = rises-high (omega arith) (h .operators) };
+      })))
       (λ _. holds-stop))
 
   word-holds : (low : ℕ) (d : Bool) (at : ℕ) → low ≤ at → Holds (Set low) (propertyWordAt d t at)
@@ -427,15 +429,18 @@ module _ (t : List ℕ) where
   unfolding walkElem walkSetting walkProperty
   property-walks at p n w text b env outer s = by b
     where
-      one : Rises (at * 32) (check 7 (p .start) true ∷ []) (n * 32)
-      one = on 7 (p .start) _ (omega (arith, w .start)) (omega arith) (rises-none (omega (arith, w .value, w .inside)))
+      v : Values (p .start) (p .value) n (p .start)
+      v = w .value
+
+      one : Rises (at * 32) (check 7 (p .start) true ∷ operatorChecks (valueRefusal (p .value))) (n * 32)
+      one = on 7 (p .start) _ (omega (arith, w .start)) (omega arith) (rises-low (omega (arith, v .first)) (v .operators))
 
       known : (k : Kind) (x : PropertyLookup) → Rises (at * 32) (walkProperty k s p x .checks) (n * 32)
       known k Unknown = one
       known k (Known q) =
           on 7 (p .start) _ (omega (arith, w .start)) (omega arith)
           (on 8 (p .start) _ (omega arith) (omega arith)
-          (on 9 (valuePlace (p .start) (p .value)) _ (omega (arith, w .value)) (omega arith) (rises-none (omega (arith, w .inside)))))
+          (on 9 (valuePlace (p .start) (p .value)) _ (omega (arith, v .first)) (omega arith) (rises-low (omega arith) (v .operators))))
 
       by : (b : Place) → Rises (at * 32) (walkSetting text b s p .checks) (n * 32)
       by Root = one

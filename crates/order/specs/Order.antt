@@ -1,7 +1,7 @@
 -- Every check of the rules 5 to 18 in a text, each with its number, its place and whether it fails, by a walk that goes on behind a
 -- fault. Behind words and sentences the rules answer the failing check of the smallest place, then of the smallest number
 -- (proofs/Smallest; of the compiler, lawful/proofs/Firsts).
-use mathlib.Core.Bool.{Bool, true, false, _||_, not}
+use mathlib.Core.Bool.{Bool, true, false, _||_, _&&_, not}
 use mathlib.Core.List.{List, [], _∷_, _++_, map}
 use mathlib.Core.Logic.{_⊎_}
 use mathlib.Core.Path.{_≡_}
@@ -9,8 +9,12 @@ use Prim.Native.Nat.{ℕ, _+_, _<_, _≤_}
 use lib.Dec.{leb, ltb}
 use Rattle.chars.specs.Choice.{if_then_else_}
 use Rattle.vocabulary.specs.Vocabulary.{propertyOf}
+use Rattle.vocabulary.specs.declared.Property.{Property}
 use Rattle.vocabulary.specs.declared.PropertyLookup.{PropertyLookup}
 use Rattle.vocabulary.specs.declared.PropertyLookup.the-variants.{Known, Unknown}
+use Rattle.expressions.specs.declared.Refusal.{Refusal}
+use Rattle.expressions.specs.declared.Refusal.the-variants.{Nowhere, AtOperator}
+use Rattle.expressions.specs.declared.Number.{Number}
 use Rattle.parts.specs.declared.Name.{Name}
 use Rattle.parts.specs.declared.Kind.{Kind}
 use Rattle.parts.specs.declared.Array.{Array}
@@ -24,7 +28,7 @@ use Rattle.parts.specs.declared.Header.{Header}
 use Rattle.parts.specs.declared.DefinedName.{DefinedName}
 use Rattle.parts.specs.declared.DefinedName.the-variants.{Unnamed, Named}
 use Rattle.parts.specs.declared.Property.{Property as Statement}
-use Rattle.settings.specs.Settings.{isField, isAllowed, slotOf, settingOf, valuePlace}
+use Rattle.settings.specs.Settings.{isField, isAllowed, slotOf, settingOf, valuePlace, valueRefusal, refusalIn}
 use Rattle.settings.specs.declared.Setting.{Setting}
 use Rattle.settings.specs.declared.Setting.the-variants.{Set, Wrong}
 use Rattle.settings.specs.declared.Slot.{Slot}
@@ -36,7 +40,7 @@ use Rattle.names.specs.Names.{bytesOf, isAmong}
 use Rattle.properties.specs.Judged.{Judged, fault, fine}
 use Rattle.properties.specs.Assigned.{givenIn, isGiven, settingsOf, assigned, nearest, noSettings}
 use Rattle.properties.specs.declared.Given.{Given}
-use Rattle.properties.specs.declared.Given.the-variants.{Nothing, Number}
+use Rattle.properties.specs.declared.Given.the-variants.{Nothing, Number as Numbered}
 use Rattle.properties.specs.declared.Settings.{Settings}
 use Rattle.properties.specs.declared.Assigned.{Assigned}
 use Rattle.components.specs.Components.{componentOf, kindOf}
@@ -60,16 +64,35 @@ pub record Check : Type 0 where
 abbrev pub check : ℕ → ℕ → Bool → Check
 check n p b = record { number = n; place = p; fails = b }
 
+-- "refusal 9 at the operator": of a number's operators at fault the first (where one is at fault there is such a check, and none at fault
+-- stands before it: `faults-covered`, expressions/proofs/Faults)
+abbrev pub operatorChecks : Refusal → List Check
+operatorChecks Nowhere = []
+operatorChecks (AtOperator p) = check 9 p true ∷ []
+
+abbrev pub isNowhere : Refusal → Bool
+isNowhere Nowhere = true
+isNowhere (AtOperator p) = false
+
+-- 9 at a number that is out of its range, where no part of it is refused; then 9 at its operator
+abbrev pub numberChecks : Bool → Number → List Check
+numberChecks inside n = check 9 (n .place) (isNowhere (n .refusal) && not inside) ∷ operatorChecks (n .refusal)
+
+-- the operators of a range, left and right
+abbrev pub rangeOperators : Number → Number → List Check
+rangeOperators left right = operatorChecks (left .refusal) ++ operatorChecks (right .refusal)
+
 -- 9 and 11: the suffixes of an instance
 abbrev pub arrayChecks : Bool → Array → List Check
 arrayChecks field array.Missing = []
-arrayChecks field (array.Size mark n) = check 9 (n .place) (not (isSize field (n .value))) ∷ []
-arrayChecks true (array.Range mark left right) = check 9 (left .place) (not (isRange (left .value) (right .value))) ∷ []
-arrayChecks false (array.Range mark left right) = check 11 mark true ∷ []
+arrayChecks field (array.Size mark n) = numberChecks (isSize field (n .value)) n
+arrayChecks true (array.Range mark left right) =
+    check 9 (left .place) ((isNowhere (left .refusal) && isNowhere (right .refusal)) && not (isRange (left .value) (right .value))) ∷ rangeOperators left right
+arrayChecks false (array.Range mark left right) = check 11 mark true ∷ rangeOperators left right
 
 abbrev pub suffixChecks : Bool → SuffixKind → Suffix → List Check
 suffixChecks barred s suffix.Missing = []
-suffixChecks barred s (suffix.Given mark n) = check 11 mark barred ∷ check 9 (n .place) (not (suffixRange s (n .value))) ∷ []
+suffixChecks barred s (suffix.Given mark n) = check 11 mark barred ∷ numberChecks (suffixRange s (n .value)) n
 
 unfoldable pub instanceChecks : Kind → Instance → List Check
 instanceChecks k i =
@@ -101,10 +124,10 @@ walked cs a = record { checks = cs; result = a }
 -- 5: an instance statement
 unfoldable pub walkUse : List ℕ → Place → Name → List Instance → State → Given → Walked State
 walkUse text b n is s Nothing = walked (check 5 (n .start) true ∷ []) s
-walkUse text b n is s (Number d) =
+walkUse text b n is s (Numbered d) =
     walked (listChecks text b (kindOf (definitionOf (s .known .table) d .component)) d is (s .held)) (withHeld s (heldAfter d is (s .held)))
 
--- 7, 8, 9: a property statement
+-- 7, 8, 9: a property statement; behind a refused value the walk goes on as if it were 0
 abbrev pub isWrong : Setting → Bool
 isWrong (Set n) = false
 isWrong Wrong = true
@@ -113,17 +136,22 @@ abbrev pub assignedBy : Setting → Bool → Assigned → Slot → Assigned
 assignedBy (Set n) d a l = assigned d a l n
 assignedBy Wrong d a l = a
 
+-- 9 at a value of wrong kind or range, no range being judged over a refused part; then 9 at its operator
+abbrev pub valueChecks : Property → Statement → List Check
+valueChecks q p =
+    check 9 (valuePlace (p .start) (p .value)) (isNowhere (refusalIn q (p .value)) && isWrong (settingOf q (p .value))) ∷ operatorChecks (valueRefusal (p .value))
+
 unfoldable pub walkProperty : Kind → State → Statement → PropertyLookup → Walked State
-walkProperty k s p Unknown = walked (check 7 (p .start) true ∷ []) s
+walkProperty k s p Unknown = walked (check 7 (p .start) true ∷ operatorChecks (valueRefusal (p .value))) s
 walkProperty k s p (Known q) =
     walked
     (check 7 (p .start) (not (isAllowed (p .defaulted) q k)) ∷
     check 8 (p .start) (isGiven (givenIn (settingsOf (p .defaulted) (s .assigned)) (slotOf q))) ∷
-    check 9 (valuePlace (p .start) (p .value)) (isWrong (settingOf q (p .value))) ∷ [])
+    valueChecks q p)
     (withAssigned s (assignedBy (settingOf q (p .value)) (p .defaulted) (s .assigned) (slotOf q)))
 
 unfoldable pub walkSetting : List ℕ → Place → State → Statement → Walked State
-walkSetting text Root s p = walked (check 7 (p .start) true ∷ []) s
+walkSetting text Root s p = walked (check 7 (p .start) true ∷ operatorChecks (valueRefusal (p .value))) s
 walkSetting text (Inside k) s p = walkProperty k s p (propertyOf (bytesOf text (p .start) (p .end)))
 
 -- 10 and 12 to 17 at a closing brace

@@ -14,10 +14,12 @@ use Rattle.lex.specs.declared.Word.the-variants as word
 use Rattle.lex.proofs.Bounds.{token-inside}
 use Rattle.vocabulary.specs.declared.Mark.{Mark}
 use Rattle.vocabulary.specs.declared.Mark.the-variants as mark
+pub use Rattle.expressions.proofs.Ends.{Ends, ends-ok, ends-stop, ends-of, ends-mapped, ends-after, ends-then, test-past, number-ends}
+use Rattle.expressions.specs.Grammar.{numberAt}
 use Rattle.parts.specs.Reading.{Parsed, ok, stop, andThen, mapped}
 use Rattle.parts.specs.Words.{roleOf, roleValue, isName, kindOf, isKind, isDefault, isProperty, isMark}
-use Rattle.parts.specs.Parts.{closedBy, nameAt, numberIn, numberAt, arrayRestAt, arrayAt, suffixMark, suffixAt, bare, setSuffix, withSuffix, bareAt, instanceAt, partedAt, listedAt, valueIn, valueOr, valueAt, property, settingAt, propertyWordAt, propertyAt, headerRestAt, headerOf, headerAt}
-use Rattle.parts.specs.declared.Number.{Number}
+use Rattle.parts.specs.Parts.{closedBy, nameAt, arrayRestAt, arrayAt, suffixMark, suffixAt, bare, setSuffix, withSuffix, bareAt, instanceAt, partedAt, listedAt, valueIn, valueOr, valueAt, property, settingAt, propertyWordAt, propertyAt, headerRestAt, headerOf, headerAt}
+use Rattle.expressions.specs.declared.Number.{Number}
 use Rattle.parts.specs.declared.Name.{Name}
 use Rattle.parts.specs.declared.Array.{Array}
 use Rattle.parts.specs.declared.Suffix.{Suffix}
@@ -32,51 +34,14 @@ use Rattle.parts.specs.declared.Kind.{Kind}
 use Rattle.parts.specs.declared.KindLookup.{KindLookup}
 use Rattle.parts.specs.declared.KindLookup.the-variants.{IsKind, NoKind}
 
--- a reading that ends from `low` to `high`, or is refused
-pub data Ends {A : Type 0} (low high : ℕ) : Parsed A → Type 0 where
-  ends-ok : {a : A} {n : ℕ} → (low ≤ n) × (n ≤ high) → Ends low high (ok a n)
-  ends-stop : {n p : ℕ} → Ends low high (stop n p)
-
-module _ {A : Type 0} {low high : ℕ} where
-  ends-here : {a : A} {n : ℕ} → Ends low high (ok a n) → (low ≤ n) × (n ≤ high)
-  ends-here (ends-ok h) = h
-
-  pub ends-of : {p : Parsed A} {a : A} {n : ℕ} → Ends low high p → p ≡ ok a n → (low ≤ n) × (n ≤ high)
-  ends-of h e = ends-here (rw e at h)
-
-  pub ends-mapped : {B : Type 0} (f : A → B) {p : Parsed A} → Ends low high p → Ends low high (mapped f p)
-  unfolding mapped
-  ends-mapped f (ends-ok h) = ends-ok h
-  ends-mapped f ends-stop = ends-stop
-
-  pub ends-after : {low′ : ℕ} {p : Parsed A} → low ≤ low′ → Ends low′ high p → Ends low high p
-  ends-after l (ends-ok {n = n} h) = ends-ok {n = n} (omega arith, h .1)
-  ends-after l ends-stop = ends-stop
-
-pub ends-then : {A B : Type 0} {low mid high : ℕ} {p : Parsed A} {k : A → ℕ → Parsed B} → Ends mid high p
-    → ((a : A) (n : ℕ) → mid ≤ n → n ≤ high → Ends low high (k a n)) → Ends low high (andThen p k)
-unfolding andThen
-ends-then (ends-ok {a = a} {n = n} h) f = f a n (h .0) (h .1)
-ends-then ends-stop f = ends-stop
-
 module _ (t : List ℕ) where
-  -- a token that passes a test which the end does not pass
-  pub test-past : (P : Word → Bool) (at : ℕ) → P word.End ≡ false → P (tokenAt t at .word) ≡ true → (suc at ≤ tokenAt t at .end) × (tokenAt t at .end ≤ length t)
-  test-past P at n y = token-inside t at (λ e. differ (rw e at y))
-    where
-      differ : P word.End ≡ true → ⊥
-      differ z =
-          let f : false ≡ true = sym n ∙ z in
-          let o : _≡_ {A = ℕ} 0 1 = cc in
-          omega arith
-
   pub mark-past : (m : Mark) (at : ℕ) → isMark m (tokenAt t at .word) ≡ true → (suc at ≤ tokenAt t at .end) × (tokenAt t at .end ≤ length t)
   unfolding isMark
-  mark-past m at = test-past (isMark m) at refl
+  mark-past m at = test-past t at (isMark m) refl
 
   pub name-past : (at : ℕ) → isName (tokenAt t at .word) ≡ true → (suc at ≤ tokenAt t at .end) × (tokenAt t at .end ≤ length t)
   unfolding isName
-  name-past at = test-past isName at refl
+  name-past at = test-past t at isName refl
 
   pub closed-ends : {A : Type 0} (m : Mark) (a : A) (at : ℕ) → Ends (suc at) (length t) (closedBy m a t at)
   unfolding closedBy
@@ -86,40 +51,27 @@ module _ (t : List ℕ) where
   unfolding nameAt
   name-ends at = either (Ends (suc at) (length t)) (isName (tokenAt t at .word)) (λ y. ends-ok (name-past at y)) (λ _. ends-stop)
 
-  number-in : (at p e : ℕ) (w : Word) → ((w ≡ word.End → ⊥) → (suc at ≤ e) × (e ≤ length t)) → Ends (suc at) (length t) (numberIn w p e)
-  number-in at p e word.End f = ends-stop
-  number-in at p e word.Name f = ends-stop
-  number-in at p e (word.Keyword k) f = ends-stop
-  number-in at p e (word.Number n) f = ends-ok (f (λ z. let o : _≡_ {A = ℕ} 0 1 = cc in omega arith))
-  number-in at p e word.String f = ends-stop
-  number-in at p e (word.Mark m) f = ends-stop
-  number-in at p e (word.Bad c) f = ends-stop
-
-  pub number-ends : (at : ℕ) → Ends (suc at) (length t) (numberAt t at)
-  unfolding numberAt
-  number-ends at = number-in at (tokenAt t at .start) (tokenAt t at .end) (tokenAt t at .word) (token-inside t at)
-
   array-rest-ends : (p : ℕ) (left : Number) (at : ℕ) → Ends (suc at) (length t) (arrayRestAt p left t at)
   unfolding arrayRestAt
   array-rest-ends p left at =
       let E = Ends {A = Array} (suc at) (length t) in
       either E (isMark mark.CloseBracket (tokenAt t at .word)) (λ y. ends-ok (mark-past mark.CloseBracket at y))
       (λ _. either E (isMark mark.Colon (tokenAt t at .word))
-      (λ y. ends-then (number-ends (tokenAt t at .end)) (λ right n l h. ends-after (omega (arith, mark-past mark.Colon at y)) (closed-ends mark.CloseBracket _ n)))
+      (λ y. ends-then (number-ends t (tokenAt t at .end)) (λ right n l h. ends-after (omega (arith, mark-past mark.Colon at y)) (closed-ends mark.CloseBracket _ n)))
       (λ _. ends-stop))
 
   pub array-ends : (at : ℕ) → at ≤ length t → Ends at (length t) (arrayAt t at)
   unfolding arrayAt
   array-ends at i =
       either (Ends at (length t)) (isMark mark.OpenBracket (tokenAt t at .word))
-      (λ y. ends-then (number-ends (tokenAt t at .end)) (λ left n l h. ends-after (omega (arith, mark-past mark.OpenBracket at y)) (array-rest-ends (tokenAt t at .start) left n)))
+      (λ y. ends-then (number-ends t (tokenAt t at .end)) (λ left n l h. ends-after (omega (arith, mark-past mark.OpenBracket at y)) (array-rest-ends (tokenAt t at .start) left n)))
       (λ _. ends-ok (omega arith, i))
 
   pub suffix-ends : (s : SuffixKind) (at : ℕ) → at ≤ length t → Ends at (length t) (suffixAt s t at)
   unfolding suffixAt
   suffix-ends s at i =
       either (Ends at (length t)) (isMark (suffixMark s) (tokenAt t at .word))
-      (λ y. ends-mapped _ (ends-after (omega (arith, mark-past (suffixMark s) at y)) (number-ends (tokenAt t at .end))))
+      (λ y. ends-mapped _ (ends-after (omega (arith, mark-past (suffixMark s) at y)) (number-ends t (tokenAt t at .end))))
       (λ _. ends-ok (omega arith, i))
 
   bare-ends : (at : ℕ) → Ends (suc at) (length t) (bareAt t at)
@@ -156,7 +108,7 @@ module _ (t : List ℕ) where
     where
       by : (x : ValueLookup) → valueIn (tokenAt t at .word) (tokenAt t at .start) ≡ x → Ends (suc at) (length t) (valueOr x (tokenAt t at .end) (mapped value.Number (numberAt t at)))
       by (IsValue v) e = ends-ok (token-inside t at (value-in-past at (tokenAt t at .word) (tokenAt t at .start) e))
-      by NoValue e = ends-mapped _ (number-ends at)
+      by NoValue e = ends-mapped _ (number-ends t at)
 
   setting-ends : (d : Bool) (w : Token) (at : ℕ) → Ends (suc at) (length t) (settingAt d w t at)
   unfolding settingAt
@@ -170,13 +122,13 @@ module _ (t : List ℕ) where
   unfolding propertyWordAt isProperty
   word-ends d at =
       either (Ends (suc at) (length t)) (isProperty (tokenAt t at .word))
-      (λ y. ends-after (omega (arith, test-past isProperty at refl y)) (setting-ends d (tokenAt t at) (tokenAt t at .end))) (λ _. ends-stop)
+      (λ y. ends-after (omega (arith, test-past t at isProperty refl y)) (setting-ends d (tokenAt t at) (tokenAt t at .end))) (λ _. ends-stop)
 
   pub property-ends : (at : ℕ) → Ends (suc at) (length t) (propertyAt t at)
   unfolding propertyAt isDefault
   property-ends at =
       either (Ends (suc at) (length t)) (isDefault (tokenAt t at .word))
-      (λ y. ends-after (omega (arith, test-past isDefault at refl y)) (word-ends true (tokenAt t at .end))) (λ _. word-ends false at)
+      (λ y. ends-after (omega (arith, test-past t at isDefault refl y)) (word-ends true (tokenAt t at .end))) (λ _. word-ends false at)
 
   header-rest-ends : (c : Kind) (p at : ℕ) → Ends (suc at) (length t) (headerRestAt c p t at)
   unfolding headerRestAt

@@ -1,8 +1,9 @@
 -- The readers of parts, one law for each way that the code goes.
-use mathlib.Core.Bool.{Bool, true, false, _&&_}
+use mathlib.Core.Bool.{Bool, true, false, _||_}
 use mathlib.Core.Path.{_≡_, refl, sym, ap, _∙_}
 use mathlib.Core.List.{List, [], _∷_}
 use Prim.Native.Nat.{ℕ}
+use native.Mathlib.Omega.{arith}
 use types.Run.{OneOf, miss}
 use denote.Enum.Declared.{tagOf}
 use Rattle.chars.specs.Choice.{if_then_else_}
@@ -14,12 +15,14 @@ use Rattle.lex.proofs.Word.{the-type}
 use Rattle.vocabulary.specs.declared.Mark.{Mark}
 use Rattle.vocabulary.specs.declared.Mark.the-variants as mark
 use Rattle.vocabulary.specs.declared.Keyword.{Keyword}
+use Rattle.expressions.specs.Grammar.{numberAt}
+use Rattle.expressions.specs.Answers.{numberRead}
 use Rattle.parts.specs.Reading.{Parsed, ok, stop, andThen, mapped, unexpected}
 use Rattle.parts.specs.Words.{roleOf, roleValue, isName, kindOf, isKind, isDefault, isProperty, isMark}
-use Rattle.parts.specs.Parts.{closedBy, nameAt, numberIn, numberAt, arrayRestAt, arrayAt, suffixMark, suffixAt, bare, setSuffix, withSuffix, bareAt, instanceAt, partedAt, listedAt, valueIn, valueOr, valueAt, property, settingAt, propertyWordAt, propertyAt, headerRestAt, headerOf, headerAt, startsInstances}
-use Rattle.parts.specs.Answers.{nameRead, numberRead, arrayRead, suffixRead, instanceRead, listedRead, valueRead, propertyRead, headerRead}
-use Rattle.parts.specs.declared.Number.{Number}
-use Rattle.parts.specs.declared.NumberReading.{NumberReading}
+use Rattle.parts.specs.Parts.{closedBy, nameAt, arrayRestAt, arrayAt, suffixMark, suffixAt, instanceOf, bare, setSuffix, withSuffix, bareAt, startsSuffix, placingAt, suffixedAt, instanceAt, partedAt, listedAt, valueIn, valueOr, valueAt, property, settingAt, propertyWordAt, propertyAt, headerRestAt, headerOf, headerAt, startsInstances}
+use Rattle.parts.specs.Answers.{nameRead, arrayRead, suffixRead, instanceRead, listedRead, valueRead, propertyRead, headerRead}
+use Rattle.expressions.specs.declared.Number.{Number}
+use Rattle.expressions.specs.declared.NumberReading.{NumberReading}
 use Rattle.parts.specs.declared.Name.{Name}
 use Rattle.parts.specs.declared.NameReading.{NameReading}
 use Rattle.parts.specs.declared.Array.{Array}
@@ -37,7 +40,7 @@ use Rattle.parts.specs.declared.PropertyReading.{PropertyReading}
 use Rattle.parts.specs.declared.Header.{Header}
 use Rattle.parts.specs.declared.HeaderReading.{HeaderReading}
 use Rattle.parts.specs.declared.NameReading.the-variants as nameReading
-use Rattle.parts.specs.declared.NumberReading.the-variants as numberReading
+use Rattle.expressions.specs.declared.NumberReading.the-variants as numberReading
 use Rattle.parts.specs.declared.ArrayReading.the-variants as arrayReading
 use Rattle.parts.specs.declared.SuffixReading.the-variants as suffixReading
 use Rattle.parts.specs.declared.InstanceReading.the-variants as instanceReading
@@ -45,6 +48,7 @@ use Rattle.parts.specs.declared.ValueReading.the-variants as valueReadin
 use Rattle.parts.specs.declared.Array.the-variants as array
 use Rattle.parts.specs.declared.Suffix.the-variants as suffix
 use Rattle.parts.specs.declared.SuffixKind.{SuffixKind}
+use Rattle.parts.specs.declared.SuffixKind.the-variants.{Reset, Address, Stride, Alignment}
 use Rattle.parts.specs.declared.Value.the-variants as value
 use Rattle.parts.specs.declared.ValueLookup.{ValueLookup}
 use Rattle.parts.specs.declared.ValueLookup.the-variants.{IsValue, NoValue}
@@ -72,16 +76,6 @@ module _ {A B : Type 0} {p : Parsed A} (f : A → B) where
   unfolding mapped
   mapped-stop e = rw (← e)
 
--- a word that is no number
-number-else : (w : Word) (p e : ℕ) → OneOf (0 ∷ 1 ∷ 2 ∷ 4 ∷ 5 ∷ 6 ∷ []) (tagOf the-type w) → stop 3 p ≡ numberIn w p e
-number-else word.End p e o = refl
-number-else word.Name p e o = refl
-number-else (word.Keyword k) p e o = refl
-number-else (word.Number n) p e o = absurd (miss (0 ∷ 1 ∷ 2 ∷ 4 ∷ 5 ∷ 6 ∷ []) 3 tt o)
-number-else word.String p e o = refl
-number-else (word.Mark m) p e o = refl
-number-else (word.Bad c) p e o = refl
-
 -- the token k stands at the cursor
 module _ (t : List ℕ) (at : ℕ) {k : Token} (e : k ≡ tokenAt t at) where
   module _ {r : Bool} (f : r ≡ isName (k .word)) where
@@ -92,14 +86,6 @@ module _ (t : List ℕ) (at : ℕ) {k : Token} (e : k ≡ tokenAt t at) where
     pub name-no : r ≡ false → stop 3 (k .start) ≡ nameAt t at
     unfolding nameAt
     name-no g = rw (← e, sym f ∙ g)
-
-  pub number-no : OneOf (0 ∷ 1 ∷ 2 ∷ 4 ∷ 5 ∷ 6 ∷ []) (tagOf the-type (k .word)) → stop 3 (k .start) ≡ numberAt t at
-  unfolding numberAt
-  number-no o = rw (← e) (number-else (k .word) (k .start) (k .end) o)
-
-  pub number-yes : {n : ℕ} → k .word ≡ word.Number n → ok (record { value = n; place = k .start }) (k .end) ≡ numberAt t at
-  unfolding numberAt
-  number-yes g = rw (← e, g)
 
   -- a mark that has to stand there
   module _ {A : Type 0} (m : Mark) (a : A) {r : Bool} (f : r ≡ isMark m (k .word)) where
@@ -124,7 +110,7 @@ module _ (t : List ℕ) (at : ℕ) {k : Token} (e : k ≡ tokenAt t at) where
         range-no i = rw (← e, sym f ∙ g, sym h ∙ i)
 
         module _ {x : NumberReading} (i : s ≡ true) (j : numberRead x ≡ numberAt t (k .end)) where
-          pub range-stop : {q : ℕ} → x ≡ numberReading.Stop q → stop 3 q ≡ arrayRestAt p left t at
+          pub range-stop : {m q : ℕ} → x ≡ numberReading.Stop m q → stop m q ≡ arrayRestAt p left t at
           unfolding arrayRestAt
           range-stop l = rw (← e, sym f ∙ g, sym h ∙ i) (then-stop _ (rw l at j))
 
@@ -140,7 +126,7 @@ module _ (t : List ℕ) (at : ℕ) {k : Token} (e : k ≡ tokenAt t at) where
     array-none g = rw (← e, sym f ∙ g)
 
     module _ {x : NumberReading} (g : r ≡ true) (j : numberRead x ≡ numberAt t (k .end)) where
-      pub array-stop : {q : ℕ} → x ≡ numberReading.Stop q → stop 3 q ≡ arrayAt t at
+      pub array-stop : {m q : ℕ} → x ≡ numberReading.Stop m q → stop m q ≡ arrayAt t at
       unfolding arrayAt
       array-stop l = rw (← e, sym f ∙ g) (then-stop _ (rw l at j))
 
@@ -155,7 +141,7 @@ module _ (t : List ℕ) (at : ℕ) {k : Token} (e : k ≡ tokenAt t at) where
     suffix-none g = rw (← e, ← d, sym f ∙ g)
 
     module _ {x : NumberReading} (g : r ≡ true) (j : numberRead x ≡ numberAt t (k .end)) where
-      pub suffix-stop : {q : ℕ} → x ≡ numberReading.Stop q → stop 3 q ≡ suffixAt s t at
+      pub suffix-stop : {m q : ℕ} → x ≡ numberReading.Stop m q → stop m q ≡ suffixAt s t at
       unfolding suffixAt
       suffix-stop l = rw (← e, ← d, sym f ∙ g) (mapped-stop _ (rw l at j))
 
@@ -189,7 +175,7 @@ module _ (t : List ℕ) (at : ℕ) {k : Token} (e : k ≡ tokenAt t at) where
       unfolding valueAt
       value-number h = rw (← e, sym f ∙ g) (mapped-ok _ (rw h at j))
 
-      pub value-stop : {q : ℕ} → x ≡ numberReading.Stop q → stop 3 q ≡ valueAt t at
+      pub value-stop : {m q : ℕ} → x ≡ numberReading.Stop m q → stop m q ≡ valueAt t at
       unfolding valueAt
       value-stop h = rw (← e, sym f ∙ g) (mapped-stop _ (rw h at j))
 
@@ -205,7 +191,7 @@ module _ (t : List ℕ) (at : ℕ) {k : Token} (e : k ≡ tokenAt t at) where
       setting-no i = rw (← e, sym f ∙ g, sym h ∙ i)
 
       module _ {x : ValueReading} (i : s ≡ true) (j : valueRead x ≡ valueAt t (k .end)) where
-        pub setting-stop : {q : ℕ} → x ≡ valueReading.Stop q → stop 3 q ≡ settingAt d w t at
+        pub setting-stop : {m q : ℕ} → x ≡ valueReading.Stop m q → stop m q ≡ settingAt d w t at
         unfolding settingAt
         setting-stop l = rw (← e, sym f ∙ g, sym h ∙ i) (then-stop _ (rw l at j))
 
@@ -272,42 +258,97 @@ module _ (t : List ℕ) (at : ℕ) {k : Token} (e : k ≡ tokenAt t at) where
     unfolding startsInstances
     starts-by g h i = rw (← e, sym f ∙ g, ← h) i
 
+-- whether a suffix stands there, by one test after another
+module _ (t : List ℕ) (at : ℕ) {k : Token} (e : k ≡ tokenAt t at) {a : Bool} (f : a ≡ isMark mark.Equals (k .word)) where
+  pub starts-reset : a ≡ true → true ≡ startsSuffix t at
+  unfolding startsSuffix
+  starts-reset g = rw (← e, sym f ∙ g)
+
+  module _ (g : a ≡ false) {b : Bool} (h : b ≡ isMark mark.At (k .word)) where
+    pub starts-address : b ≡ true → true ≡ startsSuffix t at
+    unfolding startsSuffix
+    starts-address i = rw (← e, sym f ∙ g, sym h ∙ i)
+
+    module _ (i : b ≡ false) {c : Bool} (j : c ≡ isMark mark.PlusEquals (k .word)) where
+      pub starts-stride : c ≡ true → true ≡ startsSuffix t at
+      unfolding startsSuffix
+      starts-stride l = rw (← e, sym f ∙ g, sym h ∙ i, sym j ∙ l)
+
+      pub starts-alignment : {d : Bool} → c ≡ false → d ≡ isMark mark.PercentEquals (k .word) → d ≡ startsSuffix t at
+      unfolding startsSuffix
+      starts-alignment l m = rw (← e, sym f ∙ g, sym h ∙ i, sym j ∙ l) m
+
+-- an instance with no suffix behind its name and array
+none-of : (a b c d : Bool) → (a || (b || (c || d))) ≡ false → ((a ≡ false) × (b ≡ false)) × ((c ≡ false) × (d ≡ false))
+none-of false false false false e = ((refl, refl), (refl, refl))
+none-of false false false true e = absurd (let z : _≡_ {A = ℕ} 0 1 = cc in omega arith)
+none-of false false true d e = absurd (let z : _≡_ {A = ℕ} 0 1 = cc in omega arith)
+none-of false true c d e = absurd (let z : _≡_ {A = ℕ} 0 1 = cc in omega arith)
+none-of true b c d e = absurd (let z : _≡_ {A = ℕ} 0 1 = cc in omega arith)
+
+bare-whole : (t : List ℕ) (m : Name) (a : Array) (n : ℕ) → startsSuffix t n ≡ false → suffixedAt t (ok (bare m a) n) ≡ ok (bare m a) n
+unfolding startsSuffix withSuffix suffixAt setSuffix andThen mapped
+bare-whole t m a n h =
+    let w = tokenAt t n .word in
+    let e = none-of (isMark mark.Equals w) (isMark mark.At w) (isMark mark.PlusEquals w) (isMark mark.PercentEquals w) h in
+    rw (e .0 .0, e .0 .1, e .1 .0, e .1 .1)
+
+-- the suffixes of an instance, one behind another
+module _ (t : List ℕ) (m : Name) (a : Array) (at : ℕ) where
+  pub suffixes-none : {b : Bool} {i : Instance} → b ≡ startsSuffix t at → b ≡ false → i ≡ bare m a → ok i at ≡ suffixedAt t (ok (bare m a) at)
+  suffixes-none f g h = rw h (sym (bare-whole t m a at (sym f ∙ g)))
+
+  module _ {x : SuffixReading} (e : suffixRead x ≡ suffixAt Reset t at) where
+    pub reset-stop : {n q : ℕ} → x ≡ suffixReading.Stop n q → stop n q ≡ suffixedAt t (ok (bare m a) at)
+    unfolding withSuffix andThen mapped
+    reset-stop f = rw (← e, f)
+
+    pub reset-done : {r : Suffix} {n : ℕ} {y : Parsed Instance} → x ≡ suffixReading.Done r n → y ≡ placingAt t (ok (setSuffix Reset r (bare m a)) n) → y ≡ suffixedAt t (ok (bare m a) at)
+    unfolding withSuffix andThen mapped
+    reset-done f g = rw (← e, f) g
+
+  module _ (r : Suffix) {x : SuffixReading} (e : suffixRead x ≡ suffixAt Address t at) where
+    pub address-stop : {n q : ℕ} → x ≡ suffixReading.Stop n q → stop n q ≡ placingAt t (ok (setSuffix Reset r (bare m a)) at)
+    unfolding withSuffix andThen mapped
+    address-stop f = rw (← e, f)
+
+    module _ {d : Suffix} {first : ℕ} {y : SuffixReading} (f : x ≡ suffixReading.Done d first) (g : suffixRead y ≡ suffixAt Stride t first) where
+      pub stride-stop : {n q : ℕ} → y ≡ suffixReading.Stop n q → stop n q ≡ placingAt t (ok (setSuffix Reset r (bare m a)) at)
+      unfolding withSuffix andThen mapped
+      stride-stop h = rw (← e, f, ← g, h)
+
+      module _ {s : Suffix} {second : ℕ} {z : SuffixReading} (h : y ≡ suffixReading.Done s second) (i : suffixRead z ≡ suffixAt Alignment t second) where
+        pub alignment-stop : {n q : ℕ} → z ≡ suffixReading.Stop n q → stop n q ≡ placingAt t (ok (setSuffix Reset r (bare m a)) at)
+        unfolding withSuffix andThen mapped
+        alignment-stop j = rw (← e, f, ← g, h, ← i, j)
+
+        pub alignment-done : {l : Suffix} {last : ℕ} {w : Instance} → z ≡ suffixReading.Done l last → w ≡ instanceOf m a r d s l
+            → ok w last ≡ placingAt t (ok (setSuffix Reset r (bare m a)) at)
+        unfolding withSuffix andThen mapped setSuffix
+        alignment-done j k = rw (k, ← e, f, ← g, h, ← i, j)
+
 -- a reading that becomes part of a larger one
 module _ (t : List ℕ) where
-  module _ (s : SuffixKind) (i : Instance) (at : ℕ) {x : SuffixReading} (e : suffixRead x ≡ suffixAt s t at) where
-    pub add-stop : {q : ℕ} → x ≡ suffixReading.Stop q → stop 3 q ≡ mapped (λ y. setSuffix s y i) (suffixAt s t at)
-    add-stop f = mapped-stop _ (rw f at e)
+  module _ (m : Name) (at : ℕ) {x : ArrayReading} (e : arrayRead x ≡ arrayAt t at) where
+    pub named-stop : {n q : ℕ} → x ≡ arrayReading.Stop n q → stop n q ≡ suffixedAt t (mapped (bare m) (arrayAt t at))
+    unfolding withSuffix andThen mapped
+    named-stop f = rw (← e, f)
 
-    pub add-set : {y : Suffix} {n : ℕ} {z : Instance} → x ≡ suffixReading.Done y n → z ≡ setSuffix s y i → ok z n ≡ mapped (λ y. setSuffix s y i) (suffixAt s t at)
-    add-set f g = rw g (mapped-ok _ (rw f at e))
-
-  module _ (s : SuffixKind) {x : InstanceReading} where
-    pub with-stop : {q : ℕ} → x ≡ instanceReading.Stop q → stop 3 q ≡ withSuffix s t (instanceRead x)
-    unfolding withSuffix andThen
-    with-stop f = rw f
-
-    pub with-more : {i : Instance} {n : ℕ} {y : Parsed Instance} → x ≡ instanceReading.Done i n → y ≡ mapped (λ z. setSuffix s z i) (suffixAt s t n) → y ≡ withSuffix s t (instanceRead x)
-    unfolding withSuffix andThen
-    with-more f g = rw f g
+    pub named-done : {a : Array} {n : ℕ} {y : Parsed Instance} → x ≡ arrayReading.Done a n → y ≡ suffixedAt t (ok (bare m a) n) → y ≡ suffixedAt t (mapped (bare m) (arrayAt t at))
+    unfolding mapped
+    named-done f g = rw (← e, f) g
 
   module _ (at : ℕ) {x : NameReading} (e : nameRead x ≡ nameAt t at) where
-    pub bare-stop : {q : ℕ} → x ≡ nameReading.Stop q → stop 3 q ≡ bareAt t at
-    unfolding bareAt
-    bare-stop f = then-stop _ (rw f at e)
+    pub name-stop : {q : ℕ} → x ≡ nameReading.Stop q → stop 3 q ≡ instanceAt t at
+    unfolding instanceAt bareAt withSuffix andThen
+    name-stop f = rw (← e, f)
 
-    pub bare-more : {n : Name} {next : ℕ} {y : Parsed Instance} → x ≡ nameReading.Done n next → y ≡ mapped (bare n) (arrayAt t next) → y ≡ bareAt t at
-    unfolding bareAt
-    bare-more f g = g ∙ then-ok _ (rw f at e)
-
-  module _ (n : Name) (at : ℕ) {x : ArrayReading} (e : arrayRead x ≡ arrayAt t at) where
-    pub bare-array-stop : {q : ℕ} → x ≡ arrayReading.Stop q → stop 3 q ≡ mapped (bare n) (arrayAt t at)
-    bare-array-stop f = mapped-stop _ (rw f at e)
-
-    pub bare-array : {a : Array} {next : ℕ} → x ≡ arrayReading.Done a next → ok (bare n a) next ≡ mapped (bare n) (arrayAt t at)
-    bare-array f = mapped-ok _ (rw f at e)
+    pub name-done : {m : Name} {n : ℕ} {y : Parsed Instance} → x ≡ nameReading.Done m n → y ≡ suffixedAt t (mapped (bare m) (arrayAt t n)) → y ≡ instanceAt t at
+    unfolding instanceAt bareAt andThen
+    name-done f g = rw (← e, f) g
 
   module _ (at : ℕ) {x : InstanceReading} (e : instanceRead x ≡ instanceAt t at) where
-    pub listed-stop : {q : ℕ} → x ≡ instanceReading.Stop q → stop 3 q ≡ listedAt t at
+    pub listed-stop : {m q : ℕ} → x ≡ instanceReading.Stop m q → stop m q ≡ listedAt t at
     unfolding listedAt
     listed-stop f = then-stop _ (rw f at e)
 

@@ -1,11 +1,8 @@
--- What each reader's answer means as a reading: a stop is refusal 3.
+-- What each reader's answer means as a reading: a stop that has no number is refusal 3.
 use Rattle.parts.specs.Reading.{Parsed, ok, stop}
 use Rattle.parts.specs.declared.Name.{Name}
 use Rattle.parts.specs.declared.NameReading.{NameReading}
 use Rattle.parts.specs.declared.NameReading.the-variants as name
-use Rattle.parts.specs.declared.Number.{Number}
-use Rattle.parts.specs.declared.NumberReading.{NumberReading}
-use Rattle.parts.specs.declared.NumberReading.the-variants as number
 use Rattle.parts.specs.declared.Array.{Array}
 use Rattle.parts.specs.declared.ArrayReading.{ArrayReading}
 use Rattle.parts.specs.declared.ArrayReading.the-variants as array
@@ -32,33 +29,29 @@ abbrev pub nameRead : NameReading → Parsed Name
 nameRead (name.Done x next) = ok x next
 nameRead (name.Stop place) = stop 3 place
 
-abbrev pub numberRead : NumberReading → Parsed Number
-numberRead (number.Done x next) = ok x next
-numberRead (number.Stop place) = stop 3 place
-
 abbrev pub arrayRead : ArrayReading → Parsed Array
 arrayRead (array.Done x next) = ok x next
-arrayRead (array.Stop place) = stop 3 place
+arrayRead (array.Stop n place) = stop n place
 
 abbrev pub suffixRead : SuffixReading → Parsed Suffix
 suffixRead (suffix.Done x next) = ok x next
-suffixRead (suffix.Stop place) = stop 3 place
+suffixRead (suffix.Stop n place) = stop n place
 
 abbrev pub instanceRead : InstanceReading → Parsed Instance
 instanceRead (instance.Done x next) = ok x next
-instanceRead (instance.Stop place) = stop 3 place
+instanceRead (instance.Stop n place) = stop n place
 
 abbrev pub listedRead : ListedReading → Parsed Listed
 listedRead (listed.Done x next) = ok x next
-listedRead (listed.Stop place) = stop 3 place
+listedRead (listed.Stop n place) = stop n place
 
 abbrev pub valueRead : ValueReading → Parsed Value
 valueRead (value.Done x next) = ok x next
-valueRead (value.Stop place) = stop 3 place
+valueRead (value.Stop n place) = stop n place
 
 abbrev pub propertyRead : PropertyReading → Parsed Property
 propertyRead (property.Done x next) = ok x next
-propertyRead (property.Stop place) = stop 3 place
+propertyRead (property.Stop n place) = stop n place
 
 abbrev pub headerRead : HeaderReading → Parsed Header
 headerRead (header.Done x next) = ok x next

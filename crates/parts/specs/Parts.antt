@@ -1,5 +1,5 @@
 -- The parts of sentences (document 01, "Sentences"), each as a reader of the text at a cursor.
-use mathlib.Core.Bool.{Bool, true, false, _&&_}
+use mathlib.Core.Bool.{Bool, true, false, _||_, _&&_}
 use mathlib.Core.List.{List}
 use Prim.Native.Nat.{ℕ}
 use Rattle.chars.specs.Choice.{if_then_else_}
@@ -11,7 +11,8 @@ use Rattle.vocabulary.specs.declared.Mark.{Mark}
 use Rattle.vocabulary.specs.declared.Mark.the-variants as mark
 use Rattle.parts.specs.Reading.{Parsed, ok, stop, andThen, mapped, unexpected}
 use Rattle.parts.specs.Words.{roleOf, roleValue, isName, kindOf, isDefault, isProperty, isMark}
-use Rattle.parts.specs.declared.Number.{Number}
+use Rattle.expressions.specs.Grammar.{numberAt}
+use Rattle.expressions.specs.declared.Number.{Number}
 use Rattle.parts.specs.declared.Name.{Name}
 use Rattle.parts.specs.declared.Array.{Array}
 use Rattle.parts.specs.declared.Array.the-variants as array
@@ -42,19 +43,6 @@ unfoldable pub nameAt : List ℕ → ℕ → Parsed Name
 nameAt text at =
     let k = tokenAt text at in
     if isName (k .word) then ok (record { start = k .start; end = k .end }) (k .end) else unexpected k
-
--- a number: wherever a number may stand, this is what may stand there
-abbrev pub numberIn : Word → ℕ → ℕ → Parsed Number
-numberIn word.End p e = stop 3 p
-numberIn word.Name p e = stop 3 p
-numberIn (word.Keyword k) p e = stop 3 p
-numberIn (word.Number n) p e = ok (record { value = n; place = p }) e
-numberIn word.String p e = stop 3 p
-numberIn (word.Mark m) p e = stop 3 p
-numberIn (word.Bad c) p e = stop 3 p
-
-unfoldable pub numberAt : List ℕ → ℕ → Parsed Number
-numberAt text at = let k = tokenAt text at in numberIn (k .word) (k .start) (k .end)
 
 -- behind `[`, which stands at the place `p`, and a number: `]`, or `:` and a second number and `]`
 unfoldable pub arrayRestAt : ℕ → Number → List ℕ → ℕ → Parsed Array
@@ -106,9 +94,22 @@ withSuffix s text p = andThen p (λ i next. mapped (λ x. setSuffix s x i) (suff
 unfoldable pub bareAt : List ℕ → ℕ → Parsed Instance
 bareAt text at = andThen (nameAt text at) (λ n next. mapped (bare n) (arrayAt text next))
 
+-- behind what was read of an instance: `@`, `+=` and `%=`; before them `=`
+abbrev pub placingAt : List ℕ → Parsed Instance → Parsed Instance
+placingAt text p = withSuffix Alignment text (withSuffix Stride text (withSuffix Address text p))
+
+abbrev pub suffixedAt : List ℕ → Parsed Instance → Parsed Instance
+suffixedAt text p = placingAt text (withSuffix Reset text p)
+
 -- "An instance is a name, then optionally .., in that order"
 unfoldable pub instanceAt : List ℕ → ℕ → Parsed Instance
-instanceAt text at = withSuffix Alignment text (withSuffix Stride text (withSuffix Address text (withSuffix Reset text (bareAt text at))))
+instanceAt text at = suffixedAt text (bareAt text at)
+
+-- whether a suffix stands there: where none does, a name with its array is the whole instance
+unfoldable pub startsSuffix : List ℕ → ℕ → Bool
+startsSuffix text at =
+    let w = tokenAt text at .word in
+    isMark (suffixMark Reset) w || (isMark (suffixMark Address) w || (isMark (suffixMark Stride) w || isMark (suffixMark Alignment) w))
 
 -- behind an instance: "parted by commas", and `;` behind the last
 unfoldable pub partedAt : Instance → List ℕ → ℕ → Parsed Listed

@@ -118,6 +118,24 @@ markNumber mark.Equals = 7
 markNumber mark.At = 8
 markNumber mark.PlusEquals = 9
 markNumber mark.PercentEquals = 10
+markNumber mark.OpenParen = 11
+markNumber mark.CloseParen = 12
+markNumber mark.Times = 13
+markNumber mark.Slash = 14
+markNumber mark.Percent = 15
+markNumber mark.Plus = 16
+markNumber mark.Minus = 17
+markNumber mark.ShiftLeft = 18
+markNumber mark.ShiftRight = 19
+markNumber mark.Less = 20
+markNumber mark.AtMost = 21
+markNumber mark.More = 22
+markNumber mark.AtLeast = 23
+markNumber mark.Same = 24
+markNumber mark.Unlike = 25
+markNumber mark.Ampersand = 26
+markNumber mark.Caret = 27
+markNumber mark.Bar = 28
 
 -- whether a word is that mark
 unfoldable pub isMark : Mark → Word → Bool

@@ -1,14 +1,16 @@
-// The parts of sentences: names, numbers, suffixes, instances, values, property statements and the headers of definitions.
-// Each reader answers what stands at a cursor with the cursor past it, or the place at which no sentence continues.
+// The parts of sentences: names, suffixes, instances, values, property statements and the headers of definitions.
+// Each reader answers what stands at a cursor with the cursor past it, or the refusal and its place: 3 where it has no number.
+use expressions::Number;
+use expressions::NumberReading;
 use lex::Token;
 use lex::Word;
 use vocabulary::Keyword;
 use vocabulary::Mark;
 ghost use mathlib.Core.Path.{_≡_};
-ghost use Rattle.parts.specs.Reading.{mapped};
+ghost use Rattle.expressions.specs.Reading.{ok, mapped};
 ghost use Rattle.parts.specs.Words.{roleOf, roleKind, roleDefault, roleProperty, roleValue, isName, kindOf, isKind, isDefault, isProperty, markNumber, isMark, isEnd};
-ghost use Rattle.parts.specs.Parts.{closedBy, nameAt, numberAt, arrayRestAt, arrayAt, suffixMark, suffixAt, instanceOf, bare, setSuffix, withSuffix, bareAt, instanceAt, partedAt, listedAt, valueIn, valueAt, property, settingAt, propertyWordAt, propertyAt, headerRestAt, headerAt, isNamed, startsInstances};
-ghost use Rattle.parts.specs.Answers.{nameRead, numberRead, arrayRead, suffixRead, instanceRead, listedRead, valueRead, propertyRead, headerRead};
+ghost use Rattle.parts.specs.Parts.{closedBy, nameAt, arrayRestAt, arrayAt, suffixMark, suffixAt, instanceOf, bare, setSuffix, startsSuffix, placingAt, suffixedAt, instanceAt, partedAt, listedAt, valueIn, valueAt, property, settingAt, propertyWordAt, propertyAt, headerRestAt, headerAt, isNamed, startsInstances};
+ghost use Rattle.parts.specs.Answers.{nameRead, arrayRead, suffixRead, instanceRead, listedRead, valueRead, propertyRead, headerRead};
 
 // The kinds of component.
 pub enum Kind {
@@ -43,17 +45,6 @@ pub enum NameReading {
     Stop(usize),
 }
 
-// A number and its place.
-pub struct Number {
-    pub value: u64,
-    pub place: usize,
-}
-
-pub enum NumberReading {
-    Done(Number, usize),
-    Stop(usize),
-}
-
 // `[n]` or `[left:right]`, with the place of its first mark.
 pub enum Array {
     Missing,
@@ -63,7 +54,7 @@ pub enum Array {
 
 pub enum ArrayReading {
     Done(Array, usize),
-    Stop(usize),
+    Stop(u8, usize),
 }
 
 // A mark and a number, with the mark's place.
@@ -82,7 +73,7 @@ pub enum SuffixKind {
 
 pub enum SuffixReading {
     Done(Suffix, usize),
-    Stop(usize),
+    Stop(u8, usize),
 }
 
 // An instance with its suffixes.
@@ -97,7 +88,7 @@ pub struct Instance {
 
 pub enum InstanceReading {
     Done(Instance, usize),
-    Stop(usize),
+    Stop(u8, usize),
 }
 
 // An instance of a list, and whether it is the list's last.
@@ -108,7 +99,7 @@ pub struct Listed {
 
 pub enum ListedReading {
     Done(Listed, usize),
-    Stop(usize),
+    Stop(u8, usize),
 }
 
 // A property's value, with its place; Missing where the property stands alone.
@@ -126,7 +117,7 @@ pub enum ValueLookup {
 
 pub enum ValueReading {
     Done(Value, usize),
-    Stop(usize),
+    Stop(u8, usize),
 }
 
 // A property statement: whether it is a default, the property word's place and end, and the value.
@@ -139,7 +130,7 @@ pub struct Property {
 
 pub enum PropertyReading {
     Done(Property, usize),
-    Stop(usize),
+    Stop(u8, usize),
 }
 
 // The name of a definition, if it has one.
@@ -323,6 +314,24 @@ fn mark_number(mark: Mark) -> u8
         Mark::At => 8,
         Mark::PlusEquals => 9,
         Mark::PercentEquals => 10,
+        Mark::OpenParen => 11,
+        Mark::CloseParen => 12,
+        Mark::Times => 13,
+        Mark::Slash => 14,
+        Mark::Percent => 15,
+        Mark::Plus => 16,
+        Mark::Minus => 17,
+        Mark::ShiftLeft => 18,
+        Mark::ShiftRight => 19,
+        Mark::Less => 20,
+        Mark::AtMost => 21,
+        Mark::More => 22,
+        Mark::AtLeast => 23,
+        Mark::Same => 24,
+        Mark::Unlike => 25,
+        Mark::Ampersand => 26,
+        Mark::Caret => 27,
+        Mark::Bar => 28,
     }
 }
 
@@ -370,22 +379,6 @@ pub fn read_name(text: &[u8], at: usize) -> NameReading
     NameReading::Stop(token.start)
 }
 
-// A number.
-pub fn read_number(text: &[u8], at: usize) -> NumberReading
-    ensures { λ r. ⌜ numberRead r ≡ numberAt (now (text .entry)) at ⌝ }
-{
-    let token = lex::next_token(text, at);
-    let word = token.word;
-    let Word::Number(value) = word else {
-        return NumberReading::Stop(token.start);
-    };
-    let number = Number {
-        value,
-        place: token.start,
-    };
-    NumberReading::Done(number, token.end)
-}
-
 // The closing bracket behind an array's numbers.
 fn close_array(text: &[u8], at: usize, array: Array) -> ArrayReading
     ensures { λ r. ⌜ arrayRead r ≡ closedBy Mark.CloseBracket array (now (text .entry)) at ⌝ }
@@ -395,7 +388,7 @@ fn close_array(text: &[u8], at: usize, array: Array) -> ArrayReading
     if is_mark(word, Mark::CloseBracket) {
         return ArrayReading::Done(array, token.end);
     }
-    ArrayReading::Stop(token.start)
+    ArrayReading::Stop(3, token.start)
 }
 
 // What follows the first number of an array whose bracket stands at `bracket`.
@@ -408,13 +401,13 @@ fn read_array_rest(text: &[u8], at: usize, bracket: usize, left: Number) -> Arra
         return ArrayReading::Done(Array::Size(bracket, left), token.end);
     }
     if !is_mark(word, Mark::Colon) {
-        return ArrayReading::Stop(token.start);
+        return ArrayReading::Stop(3, token.start);
     }
-    match read_number(text, token.end) {
+    match expressions::read_number(text, token.end) {
         NumberReading::Done(right, next) => {
             close_array(text, next, Array::Range(bracket, left, right))
         }
-        NumberReading::Stop(place) => ArrayReading::Stop(place),
+        NumberReading::Stop(number, place) => ArrayReading::Stop(number, place),
     }
 }
 
@@ -427,9 +420,9 @@ fn read_array(text: &[u8], at: usize) -> ArrayReading
     if !is_mark(word, Mark::OpenBracket) {
         return ArrayReading::Done(Array::Missing, at);
     }
-    match read_number(text, token.end) {
+    match expressions::read_number(text, token.end) {
         NumberReading::Done(left, next) => read_array_rest(text, next, token.start, left),
-        NumberReading::Stop(place) => ArrayReading::Stop(place),
+        NumberReading::Stop(number, place) => ArrayReading::Stop(number, place),
     }
 }
 
@@ -453,11 +446,11 @@ fn read_suffix(text: &[u8], at: usize, kind: SuffixKind) -> SuffixReading
     if !is_mark(word, suffix_mark(kind)) {
         return SuffixReading::Done(Suffix::Missing, at);
     }
-    match read_number(text, token.end) {
+    match expressions::read_number(text, token.end) {
         NumberReading::Done(number, next) => {
             SuffixReading::Done(Suffix::Given(token.start, number), next)
         }
-        NumberReading::Stop(place) => SuffixReading::Stop(place),
+        NumberReading::Stop(number, place) => SuffixReading::Stop(number, place),
     }
 }
 
@@ -482,72 +475,65 @@ fn instance_of(
     }
 }
 
-// An instance with one suffix set.
-fn set_suffix(kind: SuffixKind, suffix: Suffix, instance: Instance) -> Instance
-    ensures { λ r. ⌜ r ≡ setSuffix kind suffix instance ⌝ }
+// Whether a suffix stands there.
+fn starts_suffix(text: &[u8], at: usize) -> bool
+    ensures { λ r. ⌜ r ≡ startsSuffix (now (text .entry)) at ⌝ }
 {
-    let name = instance.name;
-    let array = instance.array;
-    let reset = instance.reset;
-    let address = instance.address;
-    let stride = instance.stride;
-    let alignment = instance.alignment;
-    match kind {
-        SuffixKind::Reset => instance_of(name, array, suffix, address, stride, alignment),
-        SuffixKind::Address => instance_of(name, array, reset, suffix, stride, alignment),
-        SuffixKind::Stride => instance_of(name, array, reset, address, suffix, alignment),
-        SuffixKind::Alignment => instance_of(name, array, reset, address, stride, suffix),
+    let token = lex::next_token(text, at);
+    let word = token.word;
+    if is_mark(word, Mark::Equals) {
+        return true;
+    }
+    if is_mark(word, Mark::At) {
+        return true;
+    }
+    if is_mark(word, Mark::PlusEquals) {
+        return true;
+    }
+    is_mark(word, Mark::PercentEquals)
+}
+
+// The suffixes of an instance in order, behind its name and array. Where there is none, what stands there is looked at once.
+fn read_suffixes(text: &[u8], at: usize, name: Name, array: Array) -> InstanceReading
+    ensures { λ r. ⌜ instanceRead r ≡ suffixedAt (now (text .entry)) (ok (bare name array) at) ⌝ }
+{
+    let none = Suffix::Missing;
+    if !starts_suffix(text, at) {
+        return InstanceReading::Done(instance_of(name, array, none, none, none, none), at);
+    }
+    match read_suffix(text, at, SuffixKind::Reset) {
+        SuffixReading::Stop(number, place) => InstanceReading::Stop(number, place),
+        SuffixReading::Done(reset, next) => read_placing(text, next, name, array, reset),
     }
 }
 
-// An instance and one suffix more.
-fn add_suffix(text: &[u8], at: usize, kind: SuffixKind, instance: Instance) -> InstanceReading
-    ensures { λ r. ⌜ instanceRead r ≡ mapped (λ s. setSuffix kind s instance) (suffixAt kind (now (text .entry)) at) ⌝ }
+// The suffixes that place an instance, behind its reset.
+fn read_placing(text: &[u8], at: usize, name: Name, array: Array, reset: Suffix) -> InstanceReading
+    ensures { λ r. ⌜ instanceRead r ≡ placingAt (now (text .entry)) (ok (setSuffix SuffixKind.Reset reset (bare name array)) at) ⌝ }
 {
-    match read_suffix(text, at, kind) {
-        SuffixReading::Done(suffix, next) => {
-            InstanceReading::Done(set_suffix(kind, suffix, instance), next)
-        }
-        SuffixReading::Stop(place) => InstanceReading::Stop(place),
+    match read_suffix(text, at, SuffixKind::Address) {
+        SuffixReading::Stop(number, place) => InstanceReading::Stop(number, place),
+        SuffixReading::Done(address, first) => match read_suffix(text, first, SuffixKind::Stride) {
+            SuffixReading::Stop(number, place) => InstanceReading::Stop(number, place),
+            SuffixReading::Done(stride, second) => {
+                match read_suffix(text, second, SuffixKind::Alignment) {
+                    SuffixReading::Stop(number, place) => InstanceReading::Stop(number, place),
+                    SuffixReading::Done(alignment, last) => InstanceReading::Done(
+                        instance_of(name, array, reset, address, stride, alignment),
+                        last,
+                    ),
+                }
+            }
+        },
     }
 }
 
-// An instance that was read, if it was, and one suffix more.
-fn with_suffix(text: &[u8], kind: SuffixKind, earlier: InstanceReading) -> InstanceReading
-    ensures { λ r. ⌜ instanceRead r ≡ withSuffix kind (now (text .entry)) (instanceRead earlier) ⌝ }
-{
-    match earlier {
-        InstanceReading::Done(instance, next) => add_suffix(text, next, kind, instance),
-        InstanceReading::Stop(place) => InstanceReading::Stop(place),
-    }
-}
-
-// A name and what follows it as an array.
-fn read_bare(text: &[u8], at: usize) -> InstanceReading
-    ensures { λ r. ⌜ instanceRead r ≡ bareAt (now (text .entry)) at ⌝ }
-{
-    match read_name(text, at) {
-        NameReading::Done(name, next) => bare_instance(text, next, name),
-        NameReading::Stop(place) => InstanceReading::Stop(place),
-    }
-}
-
-fn bare_instance(text: &[u8], at: usize, name: Name) -> InstanceReading
-    ensures { λ r. ⌜ instanceRead r ≡ mapped (bare name) (arrayAt (now (text .entry)) at) ⌝ }
+fn read_named(text: &[u8], at: usize, name: Name) -> InstanceReading
+    ensures { λ r. ⌜ instanceRead r ≡ suffixedAt (now (text .entry)) (mapped (bare name) (arrayAt (now (text .entry)) at)) ⌝ }
 {
     match read_array(text, at) {
-        ArrayReading::Done(array, next) => {
-            let instance = Instance {
-                name,
-                array,
-                reset: Suffix::Missing,
-                address: Suffix::Missing,
-                stride: Suffix::Missing,
-                alignment: Suffix::Missing,
-            };
-            InstanceReading::Done(instance, next)
-        }
-        ArrayReading::Stop(place) => InstanceReading::Stop(place),
+        ArrayReading::Done(array, next) => read_suffixes(text, next, name, array),
+        ArrayReading::Stop(number, place) => InstanceReading::Stop(number, place),
     }
 }
 
@@ -555,11 +541,10 @@ fn bare_instance(text: &[u8], at: usize, name: Name) -> InstanceReading
 pub fn read_instance(text: &[u8], at: usize) -> InstanceReading
     ensures { λ r. ⌜ instanceRead r ≡ instanceAt (now (text .entry)) at ⌝ }
 {
-    let bare = read_bare(text, at);
-    let reset = with_suffix(text, SuffixKind::Reset, bare);
-    let address = with_suffix(text, SuffixKind::Address, reset);
-    let stride = with_suffix(text, SuffixKind::Stride, address);
-    with_suffix(text, SuffixKind::Alignment, stride)
+    match read_name(text, at) {
+        NameReading::Done(name, next) => read_named(text, next, name),
+        NameReading::Stop(place) => InstanceReading::Stop(3, place),
+    }
 }
 
 // The mark behind an instance of a list.
@@ -582,7 +567,7 @@ fn read_parted(text: &[u8], at: usize, instance: Instance) -> ListedReading
         };
         return ListedReading::Done(listed, token.end);
     }
-    ListedReading::Stop(token.start)
+    ListedReading::Stop(3, token.start)
 }
 
 // An instance of a list, with the comma or semicolon behind it.
@@ -591,7 +576,7 @@ pub fn read_listed(text: &[u8], at: usize) -> ListedReading
 {
     match read_instance(text, at) {
         InstanceReading::Done(instance, next) => read_parted(text, next, instance),
-        InstanceReading::Stop(place) => ListedReading::Stop(place),
+        InstanceReading::Stop(number, place) => ListedReading::Stop(number, place),
     }
 }
 
@@ -627,9 +612,9 @@ fn read_value(text: &[u8], at: usize) -> ValueReading
     let word = token.word;
     match value_in(word, token.start) {
         ValueLookup::IsValue(value) => ValueReading::Done(value, token.end),
-        ValueLookup::NoValue => match read_number(text, at) {
+        ValueLookup::NoValue => match expressions::read_number(text, at) {
             NumberReading::Done(number, next) => ValueReading::Done(Value::Number(number), next),
-            NumberReading::Stop(place) => ValueReading::Stop(place),
+            NumberReading::Stop(number, place) => ValueReading::Stop(number, place),
         },
     }
 }
@@ -654,7 +639,7 @@ fn close_setting(text: &[u8], at: usize, property: Property) -> PropertyReading
     if is_mark(word, Mark::Semicolon) {
         return PropertyReading::Done(property, token.end);
     }
-    PropertyReading::Stop(token.start)
+    PropertyReading::Stop(3, token.start)
 }
 
 // What follows a property word.
@@ -668,13 +653,13 @@ fn read_setting(text: &[u8], at: usize, defaulted: bool, key: Token) -> Property
         return PropertyReading::Done(property, token.end);
     }
     if !is_mark(word, Mark::Equals) {
-        return PropertyReading::Stop(token.start);
+        return PropertyReading::Stop(3, token.start);
     }
     match read_value(text, token.end) {
         ValueReading::Done(value, next) => {
             close_setting(text, next, make_property(defaulted, key, value))
         }
-        ValueReading::Stop(place) => PropertyReading::Stop(place),
+        ValueReading::Stop(number, place) => PropertyReading::Stop(number, place),
     }
 }
 
@@ -687,7 +672,7 @@ fn read_property_word(text: &[u8], at: usize, defaulted: bool) -> PropertyReadin
     if is_property(word) {
         return read_setting(text, token.end, defaulted, token);
     }
-    PropertyReading::Stop(token.start)
+    PropertyReading::Stop(3, token.start)
 }
 
 // A property statement.

@@ -185,7 +185,7 @@ pub fn judge_setting(text: &[u8], kind: Kind, walk: Walk) -> Step
     ensures { λ r. ⌜ r ≡ settingStep (now (text .entry)) kind walk (propertyAt (now (text .entry)) (walk .at)) ⌝ }
 {
     match parts::read_property(text, walk.at) {
-        PropertyReading::Stop(place) => Step::Fault(3, place),
+        PropertyReading::Stop(number, place) => Step::Fault(number, place),
         PropertyReading::Done(statement, next) => {
             let assigned = walk.assigned;
             let outcome = properties::judge_property(text, kind, assigned, statement);

@@ -5,9 +5,11 @@ use Prim.Native.Nat.{ℕ}
 use Rattle.vocabulary.specs.Vocabulary.{propertyOf}
 use Rattle.vocabulary.specs.declared.PropertyLookup.{PropertyLookup}
 use Rattle.vocabulary.specs.declared.PropertyLookup.the-variants.{Known, Unknown}
+use Rattle.expressions.specs.declared.Refusal.{Refusal}
+use Rattle.expressions.specs.declared.Refusal.the-variants.{Nowhere, AtOperator}
 use Rattle.parts.specs.declared.Kind.{Kind}
 use Rattle.parts.specs.declared.Property.{Property as Statement}
-use Rattle.settings.specs.Settings.{isAllowed, slotOf, settingOf, valuePlace}
+use Rattle.settings.specs.Settings.{isAllowed, slotOf, settingOf, refusalIn, valuePlace}
 use Rattle.settings.specs.declared.Slot.{Slot}
 use Rattle.settings.specs.declared.Setting.{Setting}
 use Rattle.settings.specs.declared.Setting.the-variants.{Set, Wrong}
@@ -23,12 +25,17 @@ unfoldable pub judgeValue : Assigned → Statement → Slot → Setting → Judg
 judgeValue a p l (Set n) = fine (assigned (p .defaulted) a l n)
 judgeValue a p l Wrong = fault 9 (valuePlace (p .start) (p .value))
 
+-- "No .. range over a refused part is judged": 9 at the operator that refuses the value
+abbrev pub judgeSettled : Assigned → Statement → Slot → Refusal → Setting → Judged Assigned
+judgeSettled a p l Nowhere s = judgeValue a p l s
+judgeSettled a p l (AtOperator place) s = fault 9 place
+
 -- 7: "property unknown or not for this component or default"; 8: "set, or defaulted, twice in a body"
 unfoldable pub judgeKnown : Kind → Assigned → Statement → PropertyLookup → Judged Assigned
 judgeKnown k a p Unknown = fault 7 (p .start)
 judgeKnown k a p (Known q) =
     unless (not (isAllowed (p .defaulted) q k)) 7 (p .start)
-    (unless (isGiven (givenIn (settingsOf (p .defaulted) a) (slotOf q))) 8 (p .start) (judgeValue a p (slotOf q) (settingOf q (p .value))))
+    (unless (isGiven (givenIn (settingsOf (p .defaulted) a) (slotOf q))) 8 (p .start) (judgeSettled a p (slotOf q) (refusalIn q (p .value)) (settingOf q (p .value))))
 
 unfoldable pub judgeProperty : List ℕ → Kind → Assigned → Statement → Judged Assigned
 judgeProperty text k a p = judgeKnown k a p (propertyOf (bytesOf text (p .start) (p .end)))

@@ -1,4 +1,5 @@
 // The property statements of a body: what each sets, and its fault by 7, 8 or 9.
+use expressions::Refusal;
 use parts::Kind;
 use parts::Property as Statement;
 use settings::Setting;
@@ -8,7 +9,7 @@ use vocabulary::PropertyLookup;
 ghost use mathlib.Core.Path.{_≡_};
 ghost use lib.Dec.{eqb};
 ghost use Rattle.properties.specs.Assigned.{slotNumber, givenIn, isGiven, orElse, replaced, assign, nearer, nearest, noSettings, nothingAssigned, settingsOf, assigned};
-ghost use Rattle.properties.specs.Properties.{judgeValue, judgeKnown, judgeProperty, judgedAs};
+ghost use Rattle.properties.specs.Properties.{judgeValue, judgeSettled, judgeKnown, judgeProperty, judgedAs};
 
 // Whether a property is set, and to which number.
 pub enum Given {
@@ -255,6 +256,22 @@ fn judge_value(before: Assigned, statement: Statement, slot: Slot, setting: Sett
     }
 }
 
+// No range over a refused part is judged.
+fn judge_settled(
+    before: Assigned,
+    statement: Statement,
+    slot: Slot,
+    refusal: Refusal,
+    setting: Setting,
+) -> Outcome
+    ensures { λ r. ⌜ judgedAs r ≡ judgeSettled before statement slot refusal setting ⌝ }
+{
+    match refusal {
+        Refusal::Nowhere => judge_value(before, statement, slot, setting),
+        Refusal::AtOperator(place) => Outcome::Fault(9, place),
+    }
+}
+
 fn judge_known(kind: Kind, before: Assigned, statement: Statement, property: Property) -> Outcome
     ensures { λ r. ⌜ judgedAs r ≡ judgeKnown kind before statement (PropertyLookup.Known property) ⌝ }
 {
@@ -266,10 +283,12 @@ fn judge_known(kind: Kind, before: Assigned, statement: Statement, property: Pro
         return Outcome::Fault(8, statement.start);
     }
     let value = statement.value;
-    judge_value(
+    let refusal = settings::refusal_in(property, value);
+    judge_settled(
         before,
         statement,
         slot,
+        refusal,
         settings::setting_of(property, value),
     )
 }

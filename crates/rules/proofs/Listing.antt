@@ -89,15 +89,15 @@ module _ (text t₀ : List ℕ) (scope : Scope) (row : ℕ) (kind : Kind) (start
       }
 
   module _ {t : List ℕ} {at held : ℕ} (g : Going text t₀ t scope row kind start before at held) {x : ListedReading} (e : listedRead x ≡ listedAt text at) where
-    pub going-stop : {p : ℕ} → x ≡ reading.Stop p → Lists text t₀ t scope row kind start before (listing.Fault 3 p)
-    going-stop {p} f =
+    pub going-stop : {m p : ℕ} → x ≡ reading.Stop m p → Lists text t₀ t scope row kind start before (listing.Fault m p)
+    going-stop {m} {p} f =
         record {
           kept = g .kept;
           moves = list-stops;
           each = λ is n table cs q typed l. refused (g .each is n table cs q typed l .reads);
         }
       where
-        w : stop 3 p ≡ listedAt text at
+        w : stop m p ≡ listedAt text at
         w = rw f at e
 
         refused : {X : Type 0} {is : List Instance} {n : ℕ} → Derived text at is n → X

@@ -11,13 +11,17 @@ use Rattle.numbers.specs.Number.{digitValue, nextValue, valueFrom, fitting, rad
 use Rattle.lex.specs.Blank.{blanks, nextFrom}
 use Rattle.lex.specs.Quote.{closes, closing}
 use Rattle.lex.specs.Token.{nameWord, nameToken, numberToken, stringToken, markToken, tokenFrom, tokenAt}
+use Rattle.operators.specs.Operators.{resultOf}
+use Rattle.expressions.specs.Words.{partOf, inRow, operatorIn}
+use Rattle.expressions.specs.Value.{earlier, given, settled, joined, evaluated}
+use Rattle.expressions.specs.Grammar.{joinedFrom, rowAt, closedAt, operandWith, operandAt, expressionAt, numberAt}
 use Rattle.parts.specs.Reading.{Parsed, ok, stop, andThen, mapped}
 use Rattle.parts.specs.Words.{isName, kindOf, isKind, isDefault, isProperty, isMark, isEnd}
-use Rattle.parts.specs.Parts.{closedBy, nameAt, numberAt, arrayRestAt, arrayAt, suffixAt, setSuffix, withSuffix, bareAt, instanceAt, partedAt, listedAt, valueAt, settingAt, propertyWordAt, propertyAt, headerRestAt, headerAt, startsInstances}
+use Rattle.parts.specs.Parts.{closedBy, nameAt, arrayRestAt, arrayAt, suffixAt, setSuffix, withSuffix, bareAt, instanceAt, partedAt, listedAt, valueAt, settingAt, propertyWordAt, propertyAt, headerRestAt, headerAt, startsInstances}
 use Rattle.syntax.specs.Tree.{Body}
 use Rattle.syntax.specs.Grammar.{instancesFrom, instancesAt, instanceStatementAt, statementAt, tailAt, elementAt, elementsAt, definitionWith, definitionAt, definitionsFrom, fileAt}
-use Rattle.settings.specs.Settings.{isAllowed, isWidth, isPowerTo, settingAs, settingOf}
-use Rattle.suffixes.specs.Suffixes.{ranged, isSize, isRange, suffixRange, isBarred, instanceFault}
+use Rattle.settings.specs.Settings.{isAllowed, isWidth, isPowerTo, settingAs, settingOf, refusalIn}
+use Rattle.suffixes.specs.Suffixes.{ranged, settledFault, isSize, isRange, suffixRange, isBarred, instanceFault}
 use Rattle.names.specs.Names.{bytesOf, sameName, isAmong}
 use Rattle.properties.specs.Judged.{Judged, fault, fine, onward, unless}
 use Rattle.properties.specs.Assigned.{assign, nearest, assigned}
@@ -59,6 +63,11 @@ cases =
     case "addrmap m { reg { field { sw = r; sw; } f; } a; };" (refused 8 34) ∷
     case "addrmap m { reg { field { rclr; onread = rset; } f; } a; };" (refused 8 32) ∷
     case "addrmap m { reg { field {} f[3:5]; } a; };" (refused 9 29) ∷
+    case "addrmap m { reg { field {} f[1+2:7-8]; } a; };" (refused 9 34) ∷
+    case "addrmap m { reg { field {} f[70:1/0]; } a; };" (refused 9 33) ∷
+    case "addrmap m { reg { field { sw = 1/0; } f; } a; };" (refused 9 31) ∷
+    case "addrmap m { reg { field { reset = 1/0; } f; } a; };" (refused 9 35) ∷
+    case "addrmap m { reg { field { rclr = 1 == 1; } f; } a; };" (refused 9 33) ∷
     case "addrmap m { reg { field {} f; } a += 0; };" (refused 11 34) ∷
     case "field t { sw = w; rclr; };" (refused 12 24) ∷
     case "addrmap m { field t { reset = 4; }; reg { t f; } a; };" (refused 13 47) ∷
@@ -71,5 +80,5 @@ cases =
     []
 
 pub worked : map (λ c. answer (bytes (c .text)) (fileAt (bytes (c .text)))) cases ≡ map (λ c. c .due) cases
-unfolding cases isWithin isBlank isLineEnd isLetter isNameByte isNumberByte isHexDigit isSpacedDigit run every sameBytes chosen entry keywordOf propertyOf markOf digitValue nextValue valueFrom fitting radixOf plainDigits spacedDigits widthOf sizedNumber sizedAt hexPrefixed hexNumber numberOf blanks nextFrom closes closing nameWord nameToken numberToken stringToken markToken tokenFrom tokenAt andThen mapped isName kindOf isKind isDefault isProperty isMark isEnd closedBy nameAt numberAt arrayRestAt arrayAt suffixAt setSuffix withSuffix bareAt instanceAt partedAt listedAt valueAt settingAt propertyWordAt propertyAt headerRestAt headerAt startsInstances instancesFrom instancesAt instanceStatementAt statementAt tailAt elementAt elementsAt definitionWith definitionAt definitionsFrom fileAt isAllowed isWidth isPowerTo settingAs settingOf ranged isSize isRange suffixRange isBarred instanceFault bytesOf sameName isAmong isReadable isWritable hasUnusableEffect some isResetWide isOutside isReadWritePair isOverlap overlaps spansParts onward unless lookup mayDefine mayHold isBadMap assigned judgeValue judgeKnown judgeProperty judgeInstances judgeUse declared judgeDefinition judgeElem judgeBody judgeFile judge assign nearest componentOf fieldAt breaks fieldsFrom registerFault closingFault judgeSetting closed
+unfolding cases isWithin isBlank isLineEnd isLetter isNameByte isNumberByte isHexDigit isSpacedDigit run every sameBytes chosen entry keywordOf propertyOf markOf digitValue nextValue valueFrom fitting radixOf plainDigits spacedDigits widthOf sizedNumber sizedAt hexPrefixed hexNumber numberOf blanks nextFrom closes closing nameWord nameToken numberToken stringToken markToken tokenFrom tokenAt andThen mapped isName kindOf isKind isDefault isProperty isMark isEnd closedBy nameAt resultOf partOf inRow operatorIn earlier given settled joined evaluated joinedFrom rowAt closedAt operandWith operandAt expressionAt numberAt arrayRestAt arrayAt suffixAt setSuffix withSuffix bareAt instanceAt partedAt listedAt valueAt settingAt propertyWordAt propertyAt headerRestAt headerAt startsInstances instancesFrom instancesAt instanceStatementAt statementAt tailAt elementAt elementsAt definitionWith definitionAt definitionsFrom fileAt isAllowed isWidth isPowerTo settingAs settingOf refusalIn ranged settledFault isSize isRange suffixRange isBarred instanceFault bytesOf sameName isAmong isReadable isWritable hasUnusableEffect some isResetWide isOutside isReadWritePair isOverlap overlaps spansParts onward unless lookup mayDefine mayHold isBadMap assigned judgeValue judgeKnown judgeProperty judgeInstances judgeUse declared judgeDefinition judgeElem judgeBody judgeFile judge assign nearest componentOf fieldAt breaks fieldsFrom registerFault closingFault judgeSetting closed
 worked = refl

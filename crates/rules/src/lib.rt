@@ -114,8 +114,8 @@ fn judge_instances(
     let mut held = before;
     loop {
         match parts::read_listed(text, at) {
-            ListedReading::Stop(place) => {
-                return Listing::Fault(3, place);
+            ListedReading::Stop(number, place) => {
+                return Listing::Fault(number, place);
             }
             ListedReading::Done(listed, next) => {
                 let instance = listed.instance;

@@ -11,6 +11,8 @@ use Rattle.chars.specs.Choice.{if_then_else_}
 use Rattle.vocabulary.specs.Vocabulary.{propertyOf}
 use Rattle.vocabulary.specs.declared.PropertyLookup.{PropertyLookup}
 use Rattle.vocabulary.specs.declared.PropertyLookup.the-variants.{Known, Unknown}
+use Rattle.expressions.specs.declared.Refusal.{Refusal}
+use Rattle.expressions.specs.declared.Refusal.the-variants.{Nowhere, AtOperator}
 use Rattle.parts.specs.declared.Name.{Name}
 use Rattle.parts.specs.declared.Kind.{Kind}
 use Rattle.parts.specs.declared.Kind.the-variants as kind
@@ -19,7 +21,7 @@ use Rattle.parts.specs.declared.Header.{Header}
 use Rattle.parts.specs.declared.DefinedName.{DefinedName}
 use Rattle.parts.specs.declared.DefinedName.the-variants.{Unnamed, Named}
 use Rattle.parts.specs.declared.Property.{Property as Statement}
-use Rattle.settings.specs.Settings.{isAllowed, slotOf, settingOf}
+use Rattle.settings.specs.Settings.{isAllowed, slotOf, settingOf, refusalIn}
 use Rattle.settings.specs.declared.Slot.{Slot}
 use Rattle.settings.specs.declared.Setting.{Setting}
 use Rattle.settings.specs.declared.Setting.the-variants.{Set, Wrong}
@@ -30,7 +32,7 @@ use Rattle.syntax.specs.Tree.{Elem, definition, instances, property, Body, clos
 use Rattle.names.specs.Names.{bytesOf, sameName, isAmong}
 use Rattle.properties.specs.Judged.{Judged, fault, fine, onward, unless}
 use Rattle.properties.specs.Assigned.{slotNumber, givenIn, isGiven, settingsOf, assigned, nearest, noSettings}
-use Rattle.properties.specs.Properties.{judgeValue, judgeKnown, judgeProperty}
+use Rattle.properties.specs.Properties.{judgeValue, judgeSettled, judgeKnown, judgeProperty}
 use Rattle.properties.specs.declared.Given.{Given}
 use Rattle.properties.specs.declared.Given.the-variants.{Nothing, Number}
 use Rattle.properties.specs.declared.Settings.{Settings}
@@ -199,13 +201,18 @@ unfolding judgeValue
 value-settles a p l Wrong r h = each-fault
 value-settles a p l (Set n) r h = each-fine (assigned-settles (p .defaulted) a l n (r n refl) h)
 
+settled-settles : (a : Assigned) (p : Statement) (l : Slot) (r : Refusal) (x : Setting) → ((n : ℕ) → x ≡ Set n → inSlot (slotNumber l) n ≡ true) → Settled a
+    → Each Settled (judgeSettled a p l r x)
+settled-settles a p l Nowhere x f h = value-settles a p l x f h
+settled-settles a p l (AtOperator place) x f h = each-fault
+
 known-settles : (k : Kind) (a : Assigned) (p : Statement) (x : PropertyLookup) → Settled a → Each Settled (judgeKnown k a p x)
 unfolding judgeKnown
 known-settles k a p Unknown h = each-fault
 known-settles k a p (Known q) h =
     each-unless Settled (not (isAllowed (p .defaulted) q k)) 7 (p .start) (λ x.
     each-unless Settled (isGiven (givenIn (settingsOf (p .defaulted) a) (slotOf q))) 8 (p .start) (λ y.
-    value-settles a p (slotOf q) (settingOf q (p .value)) (λ n z. setting-range q (p .value) z) h))
+    settled-settles a p (slotOf q) (refusalIn q (p .value)) (settingOf q (p .value)) (λ n z. setting-range q (p .value) z) h))
 
 setting-moves : (text : List ℕ) (b : Place) (s : State) (p : Statement) → Stands b s → Each (Moved b (s .known .table)) (judgeSetting text b s p)
 unfolding judgeSetting judgeProperty

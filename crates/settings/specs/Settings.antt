@@ -8,6 +8,8 @@ use Rattle.vocabulary.specs.declared.Property.{Property}
 use Rattle.vocabulary.specs.declared.Property.the-variants as property
 use Rattle.parts.specs.declared.Kind.{Kind}
 use Rattle.parts.specs.declared.Kind.the-variants as kind
+use Rattle.expressions.specs.declared.Refusal.{Refusal}
+use Rattle.expressions.specs.declared.Refusal.the-variants.{Nowhere, AtOperator}
 use Rattle.parts.specs.declared.Value.{Value}
 use Rattle.parts.specs.declared.Value.the-variants as value
 use Rattle.settings.specs.Codes.{readCode, writeCode, wordTerm}
@@ -213,3 +215,22 @@ valuePlace p value.Missing = p
 valuePlace p (value.Number n) = n .place
 valuePlace p (value.String s) = s
 valuePlace p (value.Word k s) = s
+
+-- which operator refuses a value
+abbrev pub valueRefusal : Value → Refusal
+valueRefusal value.Missing = Nowhere
+valueRefusal (value.Number n) = n .refusal
+valueRefusal (value.String s) = Nowhere
+valueRefusal (value.Word k s) = Nowhere
+
+-- "No .. range over a refused part is judged", while the kind is: so it counts where a number is wanted
+abbrev pub wantedRefusal : Wanted → Refusal → Refusal
+wantedRefusal (wanted.Listed l) r = Nowhere
+wantedRefusal (wanted.Short e) r = Nowhere
+wantedRefusal wanted.AnyNumber r = r
+wantedRefusal wanted.Width r = r
+wantedRefusal wanted.Alignment r = r
+wantedRefusal wanted.String r = Nowhere
+
+unfoldable pub refusalIn : Property → Value → Refusal
+refusalIn p v = wantedRefusal (wantedOf p) (valueRefusal v)

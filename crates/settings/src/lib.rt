@@ -1,11 +1,12 @@
 // What a property statement sets: where a property may stand (7), which property it sets, and to what (9).
+use expressions::Refusal;
 use parts::Kind;
 use parts::Value;
 use vocabulary::Keyword;
 use vocabulary::Property;
 ghost use mathlib.Core.Path.{_≡_};
 ghost use Rattle.settings.specs.Codes.{accessCode, readCode, writeCode, modeCode, wordTerm};
-ghost use Rattle.settings.specs.Settings.{groupOf, isAddrmap, isSpace, isReg, isField, isFor, isDefaultable, isAllowed, slotOf, termOf, wantedOf, isWidth, isAlignment, listNumber, listedSetting, shortSetting, numberSetting, textSetting, inRange, settingAs, settingOf, settingNumbers, valuePlace};
+ghost use Rattle.settings.specs.Settings.{groupOf, isAddrmap, isSpace, isReg, isField, isFor, isDefaultable, isAllowed, slotOf, termOf, wantedOf, isWidth, isAlignment, listNumber, listedSetting, shortSetting, numberSetting, textSetting, inRange, settingAs, settingOf, settingNumbers, valuePlace, valueRefusal, wantedRefusal, refusalIn};
 
 // `sw` and `hw`; `wr` is `rw`.
 pub enum Access {
@@ -480,4 +481,35 @@ pub fn value_place(property: usize, value: Value) -> usize
         Value::String(place) => place,
         Value::Word(_, place) => place,
     }
+}
+
+fn value_refusal(value: Value) -> Refusal
+    ensures { λ r. ⌜ r ≡ valueRefusal value ⌝ }
+{
+    match value {
+        Value::Missing => Refusal::Nowhere,
+        Value::Number(number) => number.refusal,
+        Value::String(_) => Refusal::Nowhere,
+        Value::Word(_, _) => Refusal::Nowhere,
+    }
+}
+
+fn wanted_refusal(wanted: Wanted, refusal: Refusal) -> Refusal
+    ensures { λ r. ⌜ r ≡ wantedRefusal wanted refusal ⌝ }
+{
+    match wanted {
+        Wanted::Listed(_) => Refusal::Nowhere,
+        Wanted::Short(_) => Refusal::Nowhere,
+        Wanted::AnyNumber => refusal,
+        Wanted::Width => refusal,
+        Wanted::Alignment => refusal,
+        Wanted::String => Refusal::Nowhere,
+    }
+}
+
+// Which operator refuses a value, where the property wants a number.
+pub fn refusal_in(property: Property, value: Value) -> Refusal
+    ensures { λ r. ⌜ r ≡ refusalIn property value ⌝ }
+{
+    wanted_refusal(wanted_of(property), value_refusal(value))
 }

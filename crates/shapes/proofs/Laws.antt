@@ -219,7 +219,7 @@ module _ (text t s : List ℕ) (e : Extent) (row : ℕ) (a : Given) {to i : ℕ}
     ahead = ahead-of h (l .until) (l .block) (l .children)
 
     module _ {x place : ℕ} {y : InstanceReading} (c : x ≡ cellOf t i) (p : place ≡ placeIn x) (r : instanceRead y ≡ instanceAt text place) where
-      pub laying-stop : {q : ℕ} → y ≡ instanceReading.Stop q → RowShape text t e row (record { size = size; access = access })
+      pub laying-stop : {n q : ℕ} → y ≡ instanceReading.Stop n q → RowShape text t e row (record { size = size; access = access })
       laying-stop f =
           let w : instanceRead y ≡ ok (ahead .child .instance) (ahead .entry .next) = r ∙ (rw (p, c) (ahead .entry .reads)) in
           absurd (let z : _≡_ {A = ℕ} 0 1 = cc in omega arith)

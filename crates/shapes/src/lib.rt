@@ -101,7 +101,7 @@ fn group_shape(
                 end = past;
                 i += 1;
             }
-            InstanceReading::Stop(_) => {
+            InstanceReading::Stop(_, _) => {
                 return Shape {
                     size: highest.0,
                     access,

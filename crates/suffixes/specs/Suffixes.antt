@@ -3,6 +3,9 @@ use mathlib.Core.Bool.{Bool, true, false, _||_, _&&_, not}
 use Prim.Native.Nat.{ℕ}
 use lib.Dec.{leb, ltb}
 use Rattle.chars.specs.Choice.{if_then_else_}
+use Rattle.expressions.specs.declared.Refusal.{Refusal}
+use Rattle.expressions.specs.declared.Refusal.the-variants.{Nowhere, AtOperator}
+use Rattle.expressions.specs.declared.Number.{Number}
 use Rattle.parts.specs.declared.Kind.{Kind}
 use Rattle.parts.specs.declared.Array.{Array}
 use Rattle.parts.specs.declared.Array.the-variants as array
@@ -26,6 +29,11 @@ unfoldable pub ranged : Bool → ℕ → Fault
 ranged true place = Sound
 ranged false place = Broken 9 place
 
+-- "No operator or range over a refused part is judged": 9 at the operator that refuses it
+unfoldable pub settledFault : Refusal → Fault → Fault
+settledFault Nowhere rest = rest
+settledFault (AtOperator place) rest = Broken 9 place
+
 -- "array 1 to 1,024; field width 1 to 64"
 unfoldable pub isSize : Bool → ℕ → Bool
 isSize true n = leb 1 n && leb n widthLimit
@@ -35,11 +43,17 @@ isSize false n = leb 1 n && leb n arrayLimit
 unfoldable pub isRange : ℕ → ℕ → Bool
 isRange left right = leb right left && ltb left widthLimit
 
+abbrev pub sizeFault : Bool → Number → Fault
+sizeFault field n = settledFault (n .refusal) (ranged (isSize field (n .value)) (n .place))
+
+abbrev pub rangeFault : Number → Number → Fault
+rangeFault left right = settledFault (left .refusal) (settledFault (right .refusal) (ranged (isRange (left .value) (right .value)) (left .place)))
+
 -- `[n]` or `[left:right]`, of a field or not: a range is for fields alone (11 at its first mark); "a range's left" is where its 9 stands
 abbrev pub arrayFault : Bool → Array → Fault
 arrayFault field array.Missing = Sound
-arrayFault field (array.Size mark n) = ranged (isSize field (n .value)) (n .place)
-arrayFault true (array.Range mark left right) = ranged (isRange (left .value) (right .value)) (left .place)
+arrayFault field (array.Size mark n) = sizeFault field n
+arrayFault true (array.Range mark left right) = rangeFault left right
 arrayFault false (array.Range mark left right) = Broken 11 mark
 
 -- the range of each suffix's number
@@ -49,10 +63,13 @@ suffixRange Address n = leb n addressLimit
 suffixRange Stride n = leb 1 n && leb n addressLimit
 suffixRange Alignment n = isAlignment n
 
+abbrev pub numberFault : SuffixKind → Number → Fault
+numberFault s n = settledFault (n .refusal) (ranged (suffixRange s (n .value)) (n .place))
+
 -- a suffix that may not stand here is 11 at its mark, before 9 at its number
 abbrev pub suffixFault : Bool → SuffixKind → Suffix → Fault
 suffixFault barred s suffix.Missing = Sound
-suffixFault barred s (suffix.Given mark n) = if barred then Broken 11 mark else ranged (suffixRange s (n .value)) (n .place)
+suffixFault barred s (suffix.Given mark n) = if barred then Broken 11 mark else numberFault s n
 
 abbrev pub isArray : Array → Bool
 isArray array.Missing = false

@@ -1,4 +1,6 @@
 // The suffixes of an instance: which may stand (11) and which numbers they take (9); and the bits that a field's suffix gives it.
+use expressions::Number;
+use expressions::Refusal;
 use parts::Array;
 use parts::Instance;
 use parts::Kind;
@@ -6,7 +8,7 @@ use parts::Suffix;
 use parts::SuffixKind;
 ghost use mathlib.Core.Path.{_≡_};
 ghost use mathlib.Core.Bool.{_||_};
-ghost use Rattle.suffixes.specs.Suffixes.{firstOf, ranged, isSize, isRange, arrayFault, suffixRange, suffixFault, isArray, isGiven, isBarred, instanceFault};
+ghost use Rattle.suffixes.specs.Suffixes.{firstOf, ranged, settledFault, isSize, isRange, sizeFault, rangeFault, arrayFault, suffixRange, numberFault, suffixFault, isArray, isGiven, isBarred, instanceFault};
 
 const ARRAY_LIMIT: u64 = 1024;
 
@@ -62,15 +64,41 @@ fn is_range(left: u64, right: u64) -> bool
     left < WIDTH_LIMIT
 }
 
+// No range over a refused part is judged.
+fn settle(refusal: Refusal, rest: Fault) -> Fault
+    ensures { λ r. ⌜ r ≡ settledFault refusal rest ⌝ }
+{
+    match refusal {
+        Refusal::Nowhere => rest,
+        Refusal::AtOperator(place) => Fault::Broken(9, place),
+    }
+}
+
+fn size_fault(field: bool, size: Number) -> Fault
+    ensures { λ r. ⌜ r ≡ sizeFault field size ⌝ }
+{
+    let refusal = size.refusal;
+    settle(refusal, ranged_at(is_size(field, size.value), size.place))
+}
+
+fn range_fault(left: Number, right: Number) -> Fault
+    ensures { λ r. ⌜ r ≡ rangeFault left right ⌝ }
+{
+    let left_refusal = left.refusal;
+    let right_refusal = right.refusal;
+    let ranged = ranged_at(is_range(left.value, right.value), left.place);
+    settle(left_refusal, settle(right_refusal, ranged))
+}
+
 fn array_fault(field: bool, array: Array) -> Fault
     ensures { λ r. ⌜ r ≡ arrayFault field array ⌝ }
 {
     match array {
         Array::Missing => Fault::Sound,
-        Array::Size(_, size) => ranged_at(is_size(field, size.value), size.place),
+        Array::Size(_, size) => size_fault(field, size),
         Array::Range(mark, left, right) => {
             if field {
-                return ranged_at(is_range(left.value, right.value), left.place);
+                return range_fault(left, right);
             }
             Fault::Broken(11, mark)
         }
@@ -97,6 +125,16 @@ fn suffix_range(kind: SuffixKind, n: u64) -> bool
     }
 }
 
+fn number_fault(kind: SuffixKind, number: Number) -> Fault
+    ensures { λ r. ⌜ r ≡ numberFault kind number ⌝ }
+{
+    let refusal = number.refusal;
+    settle(
+        refusal,
+        ranged_at(suffix_range(kind, number.value), number.place),
+    )
+}
+
 fn suffix_fault(barred: bool, kind: SuffixKind, suffix: Suffix) -> Fault
     ensures { λ r. ⌜ r ≡ suffixFault barred kind suffix ⌝ }
 {
@@ -106,7 +144,7 @@ fn suffix_fault(barred: bool, kind: SuffixKind, suffix: Suffix) -> Fault
     if barred {
         return Fault::Broken(11, mark);
     }
-    ranged_at(suffix_range(kind, number.value), number.place)
+    number_fault(kind, number)
 }
 
 pub fn is_array(array: Array) -> bool

@@ -39,10 +39,10 @@ use Rattle.syntax.proofs.Ends.{element-ends, definition-ends}
 -- a list of instances
 module _ (t : List ℕ) (at : ℕ) {x : ListedReading} {whole : Answer} (r : Rest (length t) at (λ k. answerOf (instancesFrom k t at)) whole)
     (e : listedRead x ≡ listedAt t at) where
-  pub list-stop : {p : ℕ} → x ≡ listedReading.Stop p → Refused 3 p ≡ whole
+  pub list-stop : {m p : ℕ} → x ≡ listedReading.Stop m p → Refused m p ≡ whole
   unfolding instancesFrom answerOf
   list-stop f =
-      let s : answerOf (instancesFrom (suc (r .turns)) t at) ≡ Refused 3 _ = ap answerOf (then-stop _ (sym (rw f at e))) in
+      let s : answerOf (instancesFrom (suc (r .turns)) t at) ≡ Refused _ _ = ap answerOf (then-stop _ (sym (rw f at e))) in
       sym s ∙ r .same
 
   module _ {l : Listed} {n : ℕ} (f : x ≡ listedReading.Done l n) where
@@ -76,7 +76,7 @@ module _ (t : List ℕ) (at : ℕ) where
     typed-more f g = g ∙ sym (ap answerOf (then-ok _ (sym (rw f at e))) ∙ answer-mapped _ _)
 
   module _ {x : PropertyReading} (e : propertyRead x ≡ propertyAt t at) where
-    pub setting-stop : {p : ℕ} → x ≡ propertyReading.Stop p → Refused 3 p ≡ answerOf (propertyAt t at)
+    pub setting-stop : {m p : ℕ} → x ≡ propertyReading.Stop m p → Refused m p ≡ answerOf (propertyAt t at)
     unfolding answerOf
     setting-stop f = ap answerOf (rw f at e)
 

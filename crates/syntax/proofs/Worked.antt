@@ -13,11 +13,15 @@ use Rattle.numbers.specs.Number.{digitValue, nextValue, valueFrom, fitting, rad
 use Rattle.lex.specs.Blank.{blanks, nextFrom}
 use Rattle.lex.specs.Quote.{closes, closing}
 use Rattle.lex.specs.Token.{nameWord, nameToken, numberToken, stringToken, markToken, tokenFrom, tokenAt}
+use Rattle.operators.specs.Operators.{resultOf}
+use Rattle.expressions.specs.Words.{partOf, inRow, operatorIn}
+use Rattle.expressions.specs.Value.{sound, earlier, given, settled, joined, evaluated}
+use Rattle.expressions.specs.Grammar.{joinedFrom, rowAt, closedAt, operandWith, operandAt, expressionAt, numberAt}
 use Rattle.parts.specs.Reading.{Parsed, ok, stop, andThen, mapped}
 use Rattle.parts.specs.Words.{isName, kindOf, isKind, isDefault, isProperty, isMark, isEnd}
-use Rattle.parts.specs.Parts.{closedBy, nameAt, numberAt, arrayRestAt, arrayAt, suffixAt, bare, setSuffix, withSuffix, bareAt, instanceAt, partedAt, listedAt, valueAt, settingAt, propertyWordAt, propertyAt, headerRestAt, headerAt, startsInstances}
+use Rattle.parts.specs.Parts.{closedBy, nameAt, arrayRestAt, arrayAt, suffixAt, bare, setSuffix, withSuffix, bareAt, instanceAt, partedAt, listedAt, valueAt, settingAt, propertyWordAt, propertyAt, headerRestAt, headerAt, startsInstances}
 use Rattle.parts.specs.declared.Name.{Name}
-use Rattle.parts.specs.declared.Number.{Number}
+use Rattle.expressions.specs.declared.Number.{Number}
 use Rattle.parts.specs.declared.Kind.the-variants.{Addrmap, Regfile, Reg, Field}
 use Rattle.parts.specs.declared.DefinedName.{DefinedName}
 use Rattle.parts.specs.declared.DefinedName.the-variants.{Unnamed, Named}
@@ -38,7 +42,7 @@ abbrev name : ℕ → ℕ → Name
 name s e = record { start = s; end = e }
 
 abbrev number : ℕ → ℕ → Number
-number v p = record { value = v; place = p }
+number v p = sound v p
 
 abbrev header : Kind → ℕ → DefinedName → ℕ → Header
 header k p n b = record { kind = k; place = p; name = n; brace = b }
@@ -110,5 +114,5 @@ cases =
     []
 
 pub worked : map (λ c. fileAt (bytes (c .text))) cases ≡ map (λ c. c .read) cases
-unfolding cases isWithin isBlank isLineEnd isLetter isNameByte isNumberByte isHexDigit isSpacedDigit run every sameBytes chosen entry keywordOf markOf digitValue nextValue valueFrom fitting radixOf plainDigits spacedDigits widthOf sizedNumber sizedAt hexPrefixed hexNumber numberOf blanks nextFrom closes closing nameWord nameToken numberToken stringToken markToken tokenFrom tokenAt andThen mapped isName kindOf isKind isDefault isProperty isMark isEnd closedBy nameAt numberAt arrayRestAt arrayAt suffixAt setSuffix withSuffix bareAt instanceAt partedAt listedAt valueAt settingAt propertyWordAt propertyAt headerRestAt headerAt startsInstances instancesFrom instancesAt instanceStatementAt statementAt tailAt elementAt elementsAt definitionWith definitionAt definitionsFrom fileAt
+unfolding cases isWithin isBlank isLineEnd isLetter isNameByte isNumberByte isHexDigit isSpacedDigit run every sameBytes chosen entry keywordOf markOf digitValue nextValue valueFrom fitting radixOf plainDigits spacedDigits widthOf sizedNumber sizedAt hexPrefixed hexNumber numberOf blanks nextFrom closes closing nameWord nameToken numberToken stringToken markToken tokenFrom tokenAt andThen mapped isName kindOf isKind isDefault isProperty isMark isEnd closedBy nameAt resultOf partOf inRow operatorIn earlier given settled joined evaluated joinedFrom rowAt closedAt operandWith operandAt expressionAt numberAt arrayRestAt arrayAt suffixAt setSuffix withSuffix bareAt instanceAt partedAt listedAt valueAt settingAt propertyWordAt propertyAt headerRestAt headerAt startsInstances instancesFrom instancesAt instanceStatementAt statementAt tailAt elementAt elementsAt definitionWith definitionAt definitionsFrom fileAt
 worked = refl

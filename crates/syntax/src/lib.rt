@@ -33,8 +33,8 @@ fn read_instances(text: &[u8], start: usize) -> Answer
                 }
                 at = next;
             }
-            ListedReading::Stop(place) => {
-                return Answer::Refused(3, place);
+            ListedReading::Stop(number, place) => {
+                return Answer::Refused(number, place);
             }
         }
     }
@@ -56,7 +56,7 @@ fn read_property_statement(text: &[u8], at: usize) -> Answer
 {
     match parts::read_property(text, at) {
         PropertyReading::Done(_, next) => Answer::Done(next),
-        PropertyReading::Stop(place) => Answer::Refused(3, place),
+        PropertyReading::Stop(number, place) => Answer::Refused(number, place),
     }
 }
 

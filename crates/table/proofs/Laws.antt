@@ -10,18 +10,19 @@ use lib.Seq.{getD-set-same, getD-set-other}
 use lib.Dec.{eqb, ltb}
 use borrow.Author.Tests.{eq-eqb, ne-eqb, eqb-false, lt-ltb, le-ltb, ltb-true, ltb-false}
 use Rattle.chars.specs.Choice.{if_then_else_}
-use Rattle.parts.specs.Parts.{instanceAt}
-use Rattle.parts.specs.Answers.{instanceRead}
+use Rattle.parts.specs.Parts.{nameAt}
+use Rattle.parts.specs.Answers.{nameRead}
 use Rattle.parts.specs.declared.Name.{Name}
 use Rattle.parts.specs.declared.Instance.{Instance}
-use Rattle.parts.specs.declared.InstanceReading.{InstanceReading}
-use Rattle.parts.specs.declared.InstanceReading.the-variants as instanceReading
+use Rattle.parts.specs.declared.NameReading.{NameReading}
+use Rattle.parts.specs.declared.NameReading.the-variants as nameReading
 use Rattle.names.specs.Names.{sameName, isAmong, fingerprint}
 use Rattle.names.proofs.Laws.{other-print}
 use Rattle.properties.specs.declared.Given.{Given}
 use Rattle.properties.specs.declared.Given.the-variants.{Nothing, Number}
 use Rattle.components.specs.declared.Component.{Component}
 use Rattle.components.specs.declared.Component.the-variants as component
+use Rattle.table.proofs.InstanceName.{instance-named}
 use Rattle.table.specs.declared.Values.{Values}
 use Rattle.table.specs.declared.Row.{Row}
 use Rattle.table.specs.Cells.{cellOf, givenFrom, flagOf, numberOf, componentFrom, valuesOf, nameIn, belowIn, valueCells, otherCells, written, entryOf, placeIn, rowIn, printIn, moved}
@@ -257,12 +258,12 @@ module _ (text t : List ℕ) (stop : ℕ) (name : Name) where
             let m = s .enough in
             record { low = omega (arith, z .1); fuel = s .fuel - 1; enough = omega (arith, z .1); same = rw (z .0, e) (types-next (s .fuel) m h (same-here ∙ y) (s .same)) }
 
--- the instance at a place
-module _ (text : List ℕ) (place : ℕ) (name : Name) {x : InstanceReading} (e : instanceRead x ≡ instanceAt text place) where
-  pub named-done : {i : Instance} {n : ℕ} {r : Bool} → x ≡ instanceReading.Done i n → r ≡ sameName text name (i .name) → r ≡ isNamedAs text name (instanceAt text place)
+-- the name at a place
+module _ (text : List ℕ) (place : ℕ) (name : Name) {x : NameReading} (e : nameRead x ≡ nameAt text place) where
+  pub named-done : {other : Name} {n : ℕ} {r : Bool} → x ≡ nameReading.Done other n → r ≡ sameName text name other → r ≡ isNamedAs text name (nameAt text place)
   named-done f g = rw (← e, f) g
 
-  pub named-stop : {q : ℕ} → x ≡ instanceReading.Stop q → false ≡ isNamedAs text name (instanceAt text place)
+  pub named-stop : {q : ℕ} → x ≡ nameReading.Stop q → false ≡ isNamedAs text name (nameAt text place)
   named-stop f = rw (← e, f)
 
 -- the instance of a cell
@@ -271,7 +272,7 @@ module _ (text : List ℕ) (x : ℕ) (name : Name) where
   unfolding isEntryNamed
   print-other e f g = rw (ne-eqb (printIn x) (fingerprint text name) (λ q. g (f ∙ q ∙ sym e)))
 
-  pub print-same : {print p place : ℕ} {r : Bool} → print ≡ fingerprint text name → p ≡ printIn x → p ≡ print → place ≡ placeIn x → r ≡ isNamedAs text name (instanceAt text place)
+  pub print-same : {print p place : ℕ} {r : Bool} → print ≡ fingerprint text name → p ≡ printIn x → p ≡ print → place ≡ placeIn x → r ≡ isNamedAs text name (nameAt text place)
       → r ≡ isEntryNamed text x name
   unfolding isEntryNamed
   print-same e f g h n = rw (eq-eqb (printIn x) (fingerprint text name) (sym f ∙ g ∙ e), ← h) n
@@ -280,8 +281,8 @@ module _ (text : List ℕ) (x : ℕ) (name : Name) where
   unfolding isEntryNamed
   entry-named {c} k = by (eqb (printIn x) (fingerprint text name)) refl
     where
-      by : (b : Bool) → eqb (printIn x) (fingerprint text name) ≡ b → (b && isNamedAs text name (instanceAt text (placeIn x))) ≡ sameName text name (c .instance .name)
-      by true q = rw (k .reads)
+      by : (b : Bool) → eqb (printIn x) (fingerprint text name) ≡ b → (b && isNamedAs text name (nameAt text (placeIn x))) ≡ sameName text name (c .instance .name)
+      by true q = rw (instance-named text (placeIn x) (k .reads) .reads)
       by false q = sym (other-print text name (c .instance .name) (λ w. eqb-false (printIn x) (fingerprint text name) q (k .print ∙ sym w)))
 
 -- the names of the instances that stand in cells

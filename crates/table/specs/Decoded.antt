@@ -5,9 +5,8 @@ use Prim.Native.Nat.{ℕ, zero, suc, _-_}
 use lib.Dec.{eqb, ltb}
 use Rattle.chars.specs.Choice.{if_then_else_}
 use Rattle.parts.specs.Reading.{Parsed, ok, stop as refused}
-use Rattle.parts.specs.Parts.{instanceAt}
+use Rattle.parts.specs.Parts.{nameAt}
 use Rattle.parts.specs.declared.Name.{Name}
-use Rattle.parts.specs.declared.Instance.{Instance}
 use Rattle.names.specs.Names.{sameName, fingerprint}
 use Rattle.table.specs.Cells.{cellOf, nameIn, belowIn, placeIn, printIn}
 use Rattle.table.specs.Definitions.{Entry}
@@ -22,14 +21,14 @@ typesFrom (suc fuel) t stop head =
 abbrev pub typesIn : List ℕ → ℕ → ℕ → List Entry
 typesIn t stop head = typesFrom head t stop head
 
--- whether what is read is an instance of this name
-abbrev pub isNamedAs : List ℕ → Name → Parsed Instance → Bool
-isNamedAs text name (ok i next) = sameName text name (i .name)
+-- whether what is read is this name
+abbrev pub isNamedAs : List ℕ → Name → Parsed Name → Bool
+isNamedAs text name (ok other next) = sameName text name other
 isNamedAs text name (refused number place) = false
 
--- whether a cell has the fingerprint of this name, and the instance at its place the name
+-- whether a cell has the fingerprint of this name, and the instance at its place begins with the name
 unfoldable pub isEntryNamed : List ℕ → ℕ → Name → Bool
-isEntryNamed text x name = eqb (printIn x) (fingerprint text name) && isNamedAs text name (instanceAt text (placeIn x))
+isEntryNamed text x name = eqb (printIn x) (fingerprint text name) && isNamedAs text name (nameAt text (placeIn x))
 
 -- whether one of the `count` cells from the index `i` on has this name
 unfoldable pub someNamed : List ℕ → List ℕ → ℕ → ℕ → Name → Bool

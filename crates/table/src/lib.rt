@@ -3,16 +3,16 @@
 use components::Component;
 use components::FieldType;
 use components::Register;
-use parts::InstanceReading;
 use parts::Kind;
 use parts::Name;
+use parts::NameReading;
 use properties::Given;
 ghost use mathlib.Core.Path.{_≡_};
 ghost use Prim.Native.Nat.{_+_, _-_, _*_, _≤_, _<_};
 ghost use lib.ListN.{set};
 ghost use Rattle.table.specs.Cells.{cellOf, rank, givenFrom, flagOf, numberOf, componentFrom, valuesIn, valuesOf, componentIn, nameIn, belowIn, valueCells, otherCells, written, entryOf, placeIn, rowIn, printIn, moved};
 ghost use Rattle.names.specs.Names.{fingerprint};
-ghost use Rattle.parts.specs.Parts.{instanceAt};
+ghost use Rattle.parts.specs.Parts.{nameAt};
 ghost use Rattle.table.specs.Decoded.{typesIn, isNamedAs, isEntryNamed, someNamed};
 ghost use Rattle.table.specs.Definitions.{lookup};
 ghost use Rattle.table.specs.Relation.{agreeing, Agrees};
@@ -341,17 +341,13 @@ pub fn find_type(text: &[u8], cells: &[u64], head: usize, stop: usize, name: Nam
     Given::Nothing
 }
 
-// Whether the instance at a place has this name.
+// Whether this name stands at a place, where an instance begins with its own: the suffixes behind it are not read.
 fn is_named_at(text: &[u8], place: usize, name: Name) -> bool
-    ensures { λ r. ⌜ r ≡ isNamedAs (now (text .entry)) name (instanceAt (now (text .entry)) place) ⌝ }
+    ensures { λ r. ⌜ r ≡ isNamedAs (now (text .entry)) name (nameAt (now (text .entry)) place) ⌝ }
 {
-    let reading = parts::read_instance(text, place);
-    match reading {
-        InstanceReading::Done(instance, _) => {
-            let other = instance.name;
-            names::same_name(text, name, other)
-        }
-        InstanceReading::Stop(_) => false,
+    match parts::read_name(text, place) {
+        NameReading::Done(other, _) => names::same_name(text, name, other),
+        NameReading::Stop(_) => false,
     }
 }
 

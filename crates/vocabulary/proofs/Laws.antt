@@ -4,6 +4,8 @@ use mathlib.Core.Path.{_≡_, refl, sym, ap, _∙_}
 use mathlib.Core.List.{List, [], _∷_, _++_}
 use Prim.Native.Nat.{ℕ}
 use native.Mathlib.Omega.{arith}
+use lib.ListN.{length}
+use Rattle.chars.specs.Ascii.{bytes}
 use Rattle.chars.specs.Choice.{if_then_else_}
 use Rattle.chars.specs.Same.{sameBytes}
 use Rattle.chars.proofs.Laws.{either, same-equal}
@@ -14,9 +16,10 @@ use Rattle.vocabulary.specs.declared.Property.{Property}
 use Rattle.vocabulary.specs.declared.PropertyLookup.{PropertyLookup}
 use Rattle.vocabulary.specs.declared.PropertyLookup.the-variants.{Known, Unknown}
 use Rattle.vocabulary.specs.declared.Mark.{Mark}
+use Rattle.vocabulary.specs.declared.Mark.the-variants as mark
 use Rattle.vocabulary.specs.declared.MarkLookup.{MarkLookup}
 use Rattle.vocabulary.specs.declared.MarkLookup.the-variants.{IsMark, NoMark}
-use Rattle.vocabulary.specs.Vocabulary.{chosen, entry, spelling, keptKeywords, itself, leave, leftOutKeywords, keywordOf, propertyName, propertyOf, accessProperties, effectProperties, otherProperties, markBytes, markOf, bracketMarks, separatorMarks, suffixMarks}
+use Rattle.vocabulary.specs.Vocabulary.{chosen, entry, spelling, keptKeywords, itself, leave, leftOutKeywords, keywordOf, propertyName, propertyOf, accessProperties, effectProperties, otherProperties, markBytes, markOf, bracketMarks, separatorMarks, suffixMarks, expressionMarks}
 
 module _ {B : Type 0} (w s : List ℕ) {r : Bool} (this other : B) (e : r ≡ sameBytes w s) where
   pub chosen-this : r ≡ true → this ≡ chosen w s this other
@@ -94,10 +97,165 @@ pub mark-spelt : (w : List ℕ) {m : Mark} → markOf w ≡ IsMark m → w ≡ m
 unfolding markOf
 mark-spelt w {m} =
     entry-holds markBytes IsMark NoMark w (λ (x : MarkLookup). x ≡ IsMark m → w ≡ markBytes m) (λ a e f. e ∙ ap markBytes (known f)) (λ f. unknown f)
-    (bracketMarks ++ (separatorMarks ++ suffixMarks))
+    (bracketMarks ++ (separatorMarks ++ (suffixMarks ++ expressionMarks)))
   where
     known : {a : Mark} → IsMark a ≡ IsMark m → a ≡ m
     known f = cc
 
     unknown : NoMark ≡ IsMark m → w ≡ markBytes m
     unknown f = absurd (let z : _≡_ {A = ℕ} 0 1 = cc in omega arith)
+
+-- bytes that no mark has
+pub mark-none : (w : List ℕ) → ((m : Mark) → w ≡ markBytes m → ⊥) → NoMark ≡ markOf w
+mark-none w f = by (markOf w) refl
+  where
+    by : (x : MarkLookup) → markOf w ≡ x → NoMark ≡ markOf w
+    by (IsMark m) e = absurd (f m (mark-spelt w e))
+    by NoMark e = sym e
+
+first : {a b : ℕ} {x y : List ℕ} → (a ∷ x) ≡ (b ∷ y) → a ≡ b
+first e = cc
+
+second : {a b c d : ℕ} {x y : List ℕ} → (a ∷ c ∷ x) ≡ (b ∷ d ∷ y) → c ≡ d
+second e = cc
+
+long : (x y : List ℕ) → x ≡ y → (length x ≡ length y → ⊥) → ⊥
+long x y e f = f (ap length e)
+
+module _ (a : ℕ) where
+  pub single-none : (a ≡ 123 → ⊥) → (a ≡ 125 → ⊥) → (a ≡ 91 → ⊥) → (a ≡ 93 → ⊥) → (a ≡ 59 → ⊥) → (a ≡ 58 → ⊥) → (a ≡ 44 → ⊥) → (a ≡ 61 → ⊥) → (a ≡ 64 → ⊥) → (a ≡ 40 → ⊥) → (a ≡ 41 → ⊥) → (a ≡ 42 → ⊥) → (a ≡ 47 → ⊥) → (a ≡ 37 → ⊥) → (a ≡ 43 → ⊥) → (a ≡ 45 → ⊥) → (a ≡ 60 → ⊥) → (a ≡ 62 → ⊥) → (a ≡ 38 → ⊥) → (a ≡ 94 → ⊥) → (a ≡ 124 → ⊥) → NoMark ≡ markOf (a ∷ [])
+  single-none n1 n2 n3 n4 n5 n6 n7 n8 n9 n10 n11 n12 n13 n14 n15 n16 n17 n18 n19 n20 n21 = mark-none (a ∷ []) by
+    where
+      by : (m : Mark) → (a ∷ []) ≡ markBytes m → ⊥
+      by mark.OpenBrace e = n1 (first e)
+      by mark.CloseBrace e = n2 (first e)
+      by mark.OpenBracket e = n3 (first e)
+      by mark.CloseBracket e = n4 (first e)
+      by mark.Semicolon e = n5 (first e)
+      by mark.Colon e = n6 (first e)
+      by mark.Comma e = n7 (first e)
+      by mark.Equals e = n8 (first e)
+      by mark.At e = n9 (first e)
+      by mark.PlusEquals e = long (a ∷ []) (bytes "+=") e (λ z. omega arith)
+      by mark.PercentEquals e = long (a ∷ []) (bytes "%=") e (λ z. omega arith)
+      by mark.OpenParen e = n10 (first e)
+      by mark.CloseParen e = n11 (first e)
+      by mark.Times e = n12 (first e)
+      by mark.Slash e = n13 (first e)
+      by mark.Percent e = n14 (first e)
+      by mark.Plus e = n15 (first e)
+      by mark.Minus e = n16 (first e)
+      by mark.ShiftLeft e = long (a ∷ []) (bytes "<<") e (λ z. omega arith)
+      by mark.ShiftRight e = long (a ∷ []) (bytes ">>") e (λ z. omega arith)
+      by mark.Less e = n17 (first e)
+      by mark.AtMost e = long (a ∷ []) (bytes "<=") e (λ z. omega arith)
+      by mark.More e = n18 (first e)
+      by mark.AtLeast e = long (a ∷ []) (bytes ">=") e (λ z. omega arith)
+      by mark.Same e = long (a ∷ []) (bytes "==") e (λ z. omega arith)
+      by mark.Unlike e = long (a ∷ []) (bytes "!=") e (λ z. omega arith)
+      by mark.Ampersand e = n19 (first e)
+      by mark.Caret e = n20 (first e)
+      by mark.Bar e = n21 (first e)
+
+  pub equals-none : (a ≡ 43 → ⊥) → (a ≡ 37 → ⊥) → (a ≡ 60 → ⊥) → (a ≡ 62 → ⊥) → (a ≡ 61 → ⊥) → (a ≡ 33 → ⊥) → NoMark ≡ markOf (a ∷ 61 ∷ [])
+  equals-none n1 n2 n3 n4 n5 n6 = mark-none (a ∷ 61 ∷ []) by
+    where
+      by : (m : Mark) → (a ∷ 61 ∷ []) ≡ markBytes m → ⊥
+      by mark.OpenBrace e = long (a ∷ 61 ∷ []) (bytes "{") e (λ z. omega arith)
+      by mark.CloseBrace e = long (a ∷ 61 ∷ []) (bytes "}") e (λ z. omega arith)
+      by mark.OpenBracket e = long (a ∷ 61 ∷ []) (bytes "[") e (λ z. omega arith)
+      by mark.CloseBracket e = long (a ∷ 61 ∷ []) (bytes "]") e (λ z. omega arith)
+      by mark.Semicolon e = long (a ∷ 61 ∷ []) (bytes ";") e (λ z. omega arith)
+      by mark.Colon e = long (a ∷ 61 ∷ []) (bytes ":") e (λ z. omega arith)
+      by mark.Comma e = long (a ∷ 61 ∷ []) (bytes ",") e (λ z. omega arith)
+      by mark.Equals e = long (a ∷ 61 ∷ []) (bytes "=") e (λ z. omega arith)
+      by mark.At e = long (a ∷ 61 ∷ []) (bytes "@") e (λ z. omega arith)
+      by mark.PlusEquals e = n1 (first e)
+      by mark.PercentEquals e = n2 (first e)
+      by mark.OpenParen e = long (a ∷ 61 ∷ []) (bytes "(") e (λ z. omega arith)
+      by mark.CloseParen e = long (a ∷ 61 ∷ []) (bytes ")") e (λ z. omega arith)
+      by mark.Times e = long (a ∷ 61 ∷ []) (bytes "*") e (λ z. omega arith)
+      by mark.Slash e = long (a ∷ 61 ∷ []) (bytes "/") e (λ z. omega arith)
+      by mark.Percent e = long (a ∷ 61 ∷ []) (bytes "%") e (λ z. omega arith)
+      by mark.Plus e = long (a ∷ 61 ∷ []) (bytes "+") e (λ z. omega arith)
+      by mark.Minus e = long (a ∷ 61 ∷ []) (bytes "-") e (λ z. omega arith)
+      by mark.ShiftLeft e = let z : _≡_ {A = ℕ} 61 60 = second e in omega arith
+      by mark.ShiftRight e = let z : _≡_ {A = ℕ} 61 62 = second e in omega arith
+      by mark.Less e = long (a ∷ 61 ∷ []) (bytes "<") e (λ z. omega arith)
+      by mark.AtMost e = n3 (first e)
+      by mark.More e = long (a ∷ 61 ∷ []) (bytes ">") e (λ z. omega arith)
+      by mark.AtLeast e = n4 (first e)
+      by mark.Same e = n5 (first e)
+      by mark.Unlike e = n6 (first e)
+      by mark.Ampersand e = long (a ∷ 61 ∷ []) (bytes "&") e (λ z. omega arith)
+      by mark.Caret e = long (a ∷ 61 ∷ []) (bytes "^") e (λ z. omega arith)
+      by mark.Bar e = long (a ∷ 61 ∷ []) (bytes "|") e (λ z. omega arith)
+
+  module _ (b : ℕ) (o : b ≡ 61 → ⊥) where
+    pub unlike-none : (a ≡ b → ⊥) → NoMark ≡ markOf (a ∷ b ∷ [])
+    unlike-none n = mark-none (a ∷ b ∷ []) by
+      where
+        by : (m : Mark) → (a ∷ b ∷ []) ≡ markBytes m → ⊥
+        by mark.OpenBrace e = long (a ∷ b ∷ []) (bytes "{") e (λ z. omega arith)
+        by mark.CloseBrace e = long (a ∷ b ∷ []) (bytes "}") e (λ z. omega arith)
+        by mark.OpenBracket e = long (a ∷ b ∷ []) (bytes "[") e (λ z. omega arith)
+        by mark.CloseBracket e = long (a ∷ b ∷ []) (bytes "]") e (λ z. omega arith)
+        by mark.Semicolon e = long (a ∷ b ∷ []) (bytes ";") e (λ z. omega arith)
+        by mark.Colon e = long (a ∷ b ∷ []) (bytes ":") e (λ z. omega arith)
+        by mark.Comma e = long (a ∷ b ∷ []) (bytes ",") e (λ z. omega arith)
+        by mark.Equals e = long (a ∷ b ∷ []) (bytes "=") e (λ z. omega arith)
+        by mark.At e = long (a ∷ b ∷ []) (bytes "@") e (λ z. omega arith)
+        by mark.PlusEquals e = o (second e)
+        by mark.PercentEquals e = o (second e)
+        by mark.OpenParen e = long (a ∷ b ∷ []) (bytes "(") e (λ z. omega arith)
+        by mark.CloseParen e = long (a ∷ b ∷ []) (bytes ")") e (λ z. omega arith)
+        by mark.Times e = long (a ∷ b ∷ []) (bytes "*") e (λ z. omega arith)
+        by mark.Slash e = long (a ∷ b ∷ []) (bytes "/") e (λ z. omega arith)
+        by mark.Percent e = long (a ∷ b ∷ []) (bytes "%") e (λ z. omega arith)
+        by mark.Plus e = long (a ∷ b ∷ []) (bytes "+") e (λ z. omega arith)
+        by mark.Minus e = long (a ∷ b ∷ []) (bytes "-") e (λ z. omega arith)
+        by mark.ShiftLeft e = n (first e ∙ sym (second e))
+        by mark.ShiftRight e = n (first e ∙ sym (second e))
+        by mark.Less e = long (a ∷ b ∷ []) (bytes "<") e (λ z. omega arith)
+        by mark.AtMost e = o (second e)
+        by mark.More e = long (a ∷ b ∷ []) (bytes ">") e (λ z. omega arith)
+        by mark.AtLeast e = o (second e)
+        by mark.Same e = o (second e)
+        by mark.Unlike e = o (second e)
+        by mark.Ampersand e = long (a ∷ b ∷ []) (bytes "&") e (λ z. omega arith)
+        by mark.Caret e = long (a ∷ b ∷ []) (bytes "^") e (λ z. omega arith)
+        by mark.Bar e = long (a ∷ b ∷ []) (bytes "|") e (λ z. omega arith)
+
+    pub twice-none : (a ≡ b) → (a ≡ 60 → ⊥) → (a ≡ 62 → ⊥) → NoMark ≡ markOf (a ∷ b ∷ [])
+    twice-none q n1 n2 = mark-none (a ∷ b ∷ []) by
+      where
+        by : (m : Mark) → (a ∷ b ∷ []) ≡ markBytes m → ⊥
+        by mark.OpenBrace e = long (a ∷ b ∷ []) (bytes "{") e (λ z. omega arith)
+        by mark.CloseBrace e = long (a ∷ b ∷ []) (bytes "}") e (λ z. omega arith)
+        by mark.OpenBracket e = long (a ∷ b ∷ []) (bytes "[") e (λ z. omega arith)
+        by mark.CloseBracket e = long (a ∷ b ∷ []) (bytes "]") e (λ z. omega arith)
+        by mark.Semicolon e = long (a ∷ b ∷ []) (bytes ";") e (λ z. omega arith)
+        by mark.Colon e = long (a ∷ b ∷ []) (bytes ":") e (λ z. omega arith)
+        by mark.Comma e = long (a ∷ b ∷ []) (bytes ",") e (λ z. omega arith)
+        by mark.Equals e = long (a ∷ b ∷ []) (bytes "=") e (λ z. omega arith)
+        by mark.At e = long (a ∷ b ∷ []) (bytes "@") e (λ z. omega arith)
+        by mark.PlusEquals e = o (second e)
+        by mark.PercentEquals e = o (second e)
+        by mark.OpenParen e = long (a ∷ b ∷ []) (bytes "(") e (λ z. omega arith)
+        by mark.CloseParen e = long (a ∷ b ∷ []) (bytes ")") e (λ z. omega arith)
+        by mark.Times e = long (a ∷ b ∷ []) (bytes "*") e (λ z. omega arith)
+        by mark.Slash e = long (a ∷ b ∷ []) (bytes "/") e (λ z. omega arith)
+        by mark.Percent e = long (a ∷ b ∷ []) (bytes "%") e (λ z. omega arith)
+        by mark.Plus e = long (a ∷ b ∷ []) (bytes "+") e (λ z. omega arith)
+        by mark.Minus e = long (a ∷ b ∷ []) (bytes "-") e (λ z. omega arith)
+        by mark.ShiftLeft e = n1 (first e)
+        by mark.ShiftRight e = n2 (first e)
+        by mark.Less e = long (a ∷ b ∷ []) (bytes "<") e (λ z. omega arith)
+        by mark.AtMost e = o (second e)
+        by mark.More e = long (a ∷ b ∷ []) (bytes ">") e (λ z. omega arith)
+        by mark.AtLeast e = o (second e)
+        by mark.Same e = o (second e)
+        by mark.Unlike e = o (second e)
+        by mark.Ampersand e = long (a ∷ b ∷ []) (bytes "&") e (λ z. omega arith)
+        by mark.Caret e = long (a ∷ b ∷ []) (bytes "^") e (λ z. omega arith)
+        by mark.Bar e = long (a ∷ b ∷ []) (bytes "|") e (λ z. omega arith)

@@ -146,7 +146,7 @@ otherProperties = property.Regwidth ∷ property.Accesswidth ∷ property.Alignm
 unfoldable pub propertyOf : List ℕ → PropertyLookup
 propertyOf w = entry propertyName Known Unknown (accessProperties ++ (effectProperties ++ otherProperties)) w
 
--- the bytes of each mark: `{ } [ ] ; : , = @ += %=`
+-- the bytes of each mark: `{ } [ ] ; : , = @ += %=`, and those of expressions, `( ) * / % + - << >> < <= > >= == != & ^ |`
 abbrev pub markBytes : Mark → List ℕ
 markBytes mark.OpenBrace = bytes "{"
 markBytes mark.CloseBrace = bytes "}"
@@ -159,6 +159,24 @@ markBytes mark.Equals = bytes "="
 markBytes mark.At = bytes "@"
 markBytes mark.PlusEquals = bytes "+="
 markBytes mark.PercentEquals = bytes "%="
+markBytes mark.OpenParen = bytes "("
+markBytes mark.CloseParen = bytes ")"
+markBytes mark.Times = bytes "*"
+markBytes mark.Slash = bytes "/"
+markBytes mark.Percent = bytes "%"
+markBytes mark.Plus = bytes "+"
+markBytes mark.Minus = bytes "-"
+markBytes mark.ShiftLeft = bytes "<<"
+markBytes mark.ShiftRight = bytes ">>"
+markBytes mark.Less = bytes "<"
+markBytes mark.AtMost = bytes "<="
+markBytes mark.More = bytes ">"
+markBytes mark.AtLeast = bytes ">="
+markBytes mark.Same = bytes "=="
+markBytes mark.Unlike = bytes "!="
+markBytes mark.Ampersand = bytes "&"
+markBytes mark.Caret = bytes "^"
+markBytes mark.Bar = bytes "|"
 
 -- brackets
 abbrev pub bracketMarks : List Mark
@@ -172,6 +190,10 @@ separatorMarks = mark.Semicolon ∷ mark.Colon ∷ mark.Comma ∷ []
 abbrev pub suffixMarks : List Mark
 suffixMarks = mark.Equals ∷ mark.At ∷ mark.PlusEquals ∷ mark.PercentEquals ∷ []
 
+-- what stands in expressions alone
+abbrev pub expressionMarks : List Mark
+expressionMarks = mark.OpenParen ∷ mark.CloseParen ∷ mark.Times ∷ mark.Slash ∷ mark.Percent ∷ mark.Plus ∷ mark.Minus ∷ mark.ShiftLeft ∷ mark.ShiftRight ∷ mark.Less ∷ mark.AtMost ∷ mark.More ∷ mark.AtLeast ∷ mark.Same ∷ mark.Unlike ∷ mark.Ampersand ∷ mark.Caret ∷ mark.Bar ∷ []
+
 -- which mark some bytes are
 unfoldable pub markOf : List ℕ → MarkLookup
-markOf w = entry markBytes IsMark NoMark (bracketMarks ++ (separatorMarks ++ suffixMarks)) w
+markOf w = entry markBytes IsMark NoMark (bracketMarks ++ (separatorMarks ++ (suffixMarks ++ expressionMarks))) w

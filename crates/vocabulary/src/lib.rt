@@ -1,8 +1,10 @@
-// The keywords of document 004, the properties that the course takes and the marks, each a fixed byte string compared with the word.
+// The keywords of document 004, the properties that the course takes and the marks. Each keyword and property is a fixed byte string
+// compared with the word; a mark is known by its one or two bytes.
 use chars::same;
 ghost use mathlib.Core.Path.{_≡_};
-ghost use Rattle.vocabulary.specs.Vocabulary.{chosen, entry, spelling, itself, leave, keywordOf, structureKeywords, propertyKeywords, accessKeywords, effectKeywords, addressingKeywords, leftOut1, leftOut2, leftOut3, leftOut4, leftOut5, leftOut6, leftOutKeywords, propertyName, propertyOf, accessProperties, effectProperties, otherProperties, markBytes, markOf, bracketMarks, separatorMarks, suffixMarks};
+ghost use Rattle.vocabulary.specs.Vocabulary.{chosen, entry, spelling, itself, leave, keywordOf, structureKeywords, propertyKeywords, accessKeywords, effectKeywords, addressingKeywords, leftOut1, leftOut2, leftOut3, leftOut4, leftOut5, leftOut6, leftOutKeywords, propertyName, propertyOf, accessProperties, effectProperties, otherProperties, markBytes, markOf};
 ghost use lib.ListN.{length};
+ghost use mathlib.Core.List.{[], _∷_};
 
 // The kept keywords.
 pub enum Keyword {
@@ -80,6 +82,24 @@ pub enum Mark {
     At,
     PlusEquals,
     PercentEquals,
+    OpenParen,
+    CloseParen,
+    Times,
+    Slash,
+    Percent,
+    Plus,
+    Minus,
+    ShiftLeft,
+    ShiftRight,
+    Less,
+    AtMost,
+    More,
+    AtLeast,
+    Same,
+    Unlike,
+    Ampersand,
+    Caret,
+    Bar,
 }
 
 // What some bytes are among the marks.
@@ -104,15 +124,6 @@ fn choose_property(
     this: PropertyLookup,
     other: PropertyLookup,
 ) -> PropertyLookup
-    ensures { λ r. ⌜ r ≡ chosen (now (word .entry)) (now (text .entry)) this other ⌝ }
-{
-    if same(word, text) {
-        return this;
-    }
-    other
-}
-
-fn choose_mark(word: &[u8], text: &[u8], this: MarkLookup, other: MarkLookup) -> MarkLookup
     ensures { λ r. ⌜ r ≡ chosen (now (word .entry)) (now (text .entry)) this other ⌝ }
 {
     if same(word, text) {
@@ -346,57 +357,6 @@ fn other_property(word: &[u8], other: PropertyLookup) -> PropertyLookup
     )
 }
 
-fn bracket_mark(word: &[u8], other: MarkLookup) -> MarkLookup
-    ensures { λ r. ⌜ r ≡ entry markBytes MarkLookup.IsMark other bracketMarks (now (word .entry)) ⌝ }
-{
-    let from_close_bracket = choose_mark(word, b"]", MarkLookup::IsMark(Mark::CloseBracket), other);
-    let from_open_bracket = choose_mark(
-        word,
-        b"[",
-        MarkLookup::IsMark(Mark::OpenBracket),
-        from_close_bracket,
-    );
-    let from_close_brace = choose_mark(
-        word,
-        b"}",
-        MarkLookup::IsMark(Mark::CloseBrace),
-        from_open_bracket,
-    );
-    choose_mark(
-        word,
-        b"{",
-        MarkLookup::IsMark(Mark::OpenBrace),
-        from_close_brace,
-    )
-}
-
-fn separator_mark(word: &[u8], other: MarkLookup) -> MarkLookup
-    ensures { λ r. ⌜ r ≡ entry markBytes MarkLookup.IsMark other separatorMarks (now (word .entry)) ⌝ }
-{
-    let from_comma = choose_mark(word, b",", MarkLookup::IsMark(Mark::Comma), other);
-    let from_colon = choose_mark(word, b":", MarkLookup::IsMark(Mark::Colon), from_comma);
-    choose_mark(word, b";", MarkLookup::IsMark(Mark::Semicolon), from_colon)
-}
-
-fn suffix_mark(word: &[u8], other: MarkLookup) -> MarkLookup
-    ensures { λ r. ⌜ r ≡ entry markBytes MarkLookup.IsMark other suffixMarks (now (word .entry)) ⌝ }
-{
-    let from_percent_equals = choose_mark(
-        word,
-        b"%=",
-        MarkLookup::IsMark(Mark::PercentEquals),
-        other,
-    );
-    let from_plus_equals = choose_mark(
-        word,
-        b"+=",
-        MarkLookup::IsMark(Mark::PlusEquals),
-        from_percent_equals,
-    );
-    let from_at = choose_mark(word, b"@", MarkLookup::IsMark(Mark::At), from_plus_equals);
-    choose_mark(word, b"=", MarkLookup::IsMark(Mark::Equals), from_at)
-}
-
 // Whether a word is one of the keywords left out.
 fn left_out(word: &[u8]) -> Lookup
     ensures { λ r. ⌜ r ≡ entry itself leave Lookup.NotKeyword leftOutKeywords (now (word .entry)) ⌝ }
@@ -430,13 +390,74 @@ pub fn property_of(word: &[u8]) -> PropertyLookup
     access_property(word, effect)
 }
 
-// Which mark some bytes are.
-pub fn mark_of(word: &[u8]) -> MarkLookup
-    ensures { λ r. ⌜ r ≡ markOf (now (word .entry)) ⌝ }
+// Which mark a byte is.
+pub fn single_mark(byte: u8) -> MarkLookup
+    ensures { λ r. ⌜ r ≡ markOf (byte ∷ []) ⌝ }
 {
-    let suffix = suffix_mark(word, MarkLookup::NoMark);
-    let separator = separator_mark(word, suffix);
-    bracket_mark(word, separator)
+    match byte {
+        b'{' => MarkLookup::IsMark(Mark::OpenBrace),
+        b'}' => MarkLookup::IsMark(Mark::CloseBrace),
+        b'[' => MarkLookup::IsMark(Mark::OpenBracket),
+        b']' => MarkLookup::IsMark(Mark::CloseBracket),
+        b';' => MarkLookup::IsMark(Mark::Semicolon),
+        b':' => MarkLookup::IsMark(Mark::Colon),
+        b',' => MarkLookup::IsMark(Mark::Comma),
+        b'=' => MarkLookup::IsMark(Mark::Equals),
+        b'@' => MarkLookup::IsMark(Mark::At),
+        b'(' => MarkLookup::IsMark(Mark::OpenParen),
+        b')' => MarkLookup::IsMark(Mark::CloseParen),
+        b'*' => MarkLookup::IsMark(Mark::Times),
+        b'/' => MarkLookup::IsMark(Mark::Slash),
+        b'%' => MarkLookup::IsMark(Mark::Percent),
+        b'+' => MarkLookup::IsMark(Mark::Plus),
+        b'-' => MarkLookup::IsMark(Mark::Minus),
+        b'<' => MarkLookup::IsMark(Mark::Less),
+        b'>' => MarkLookup::IsMark(Mark::More),
+        b'&' => MarkLookup::IsMark(Mark::Ampersand),
+        b'^' => MarkLookup::IsMark(Mark::Caret),
+        b'|' => MarkLookup::IsMark(Mark::Bar),
+        _ => MarkLookup::NoMark,
+    }
+}
+
+// Which mark a byte and an equals sign are.
+fn equals_mark(first: u8) -> MarkLookup
+    ensures { λ r. ⌜ r ≡ markOf (first ∷ 61 ∷ []) ⌝ }
+{
+    match first {
+        b'+' => MarkLookup::IsMark(Mark::PlusEquals),
+        b'%' => MarkLookup::IsMark(Mark::PercentEquals),
+        b'<' => MarkLookup::IsMark(Mark::AtMost),
+        b'>' => MarkLookup::IsMark(Mark::AtLeast),
+        b'=' => MarkLookup::IsMark(Mark::Same),
+        b'!' => MarkLookup::IsMark(Mark::Unlike),
+        _ => MarkLookup::NoMark,
+    }
+}
+
+// Which mark a byte and another than an equals sign are.
+fn twice_mark(first: u8, second: u8) -> MarkLookup
+    requires { ⌜ (second ≡ 61 → ⊥) ⌝ }
+    ensures { λ r. ⌜ r ≡ markOf (first ∷ second ∷ []) ⌝ }
+{
+    if first != second {
+        return MarkLookup::NoMark;
+    }
+    match first {
+        b'<' => MarkLookup::IsMark(Mark::ShiftLeft),
+        b'>' => MarkLookup::IsMark(Mark::ShiftRight),
+        _ => MarkLookup::NoMark,
+    }
+}
+
+// Which mark two bytes are.
+pub fn double_mark(first: u8, second: u8) -> MarkLookup
+    ensures { λ r. ⌜ r ≡ markOf (first ∷ second ∷ []) ⌝ }
+{
+    if second == b'=' {
+        return equals_mark(first);
+    }
+    twice_mark(first, second)
 }
 
 // How many bytes a mark has.
@@ -455,5 +476,23 @@ pub fn mark_length(mark: Mark) -> usize
         Mark::At => 1,
         Mark::PlusEquals => 2,
         Mark::PercentEquals => 2,
+        Mark::OpenParen => 1,
+        Mark::CloseParen => 1,
+        Mark::Times => 1,
+        Mark::Slash => 1,
+        Mark::Percent => 1,
+        Mark::Plus => 1,
+        Mark::Minus => 1,
+        Mark::ShiftLeft => 2,
+        Mark::ShiftRight => 2,
+        Mark::Less => 1,
+        Mark::AtMost => 2,
+        Mark::More => 1,
+        Mark::AtLeast => 2,
+        Mark::Same => 2,
+        Mark::Unlike => 2,
+        Mark::Ampersand => 1,
+        Mark::Caret => 1,
+        Mark::Bar => 1,
     }
 }

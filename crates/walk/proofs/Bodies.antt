@@ -170,7 +170,7 @@ module _ (text t before : List ℕ) (e : Extent) (levels row : ℕ) (a : Given) 
       ahead = ahead-of h (g .until) (g .block) (g .children)
 
       module _ {x place : ℕ} {y : InstanceReading} (c : x ≡ cellOf t i) (p : place ≡ placeIn x) (r : instanceRead y ≡ instanceAt text place) where
-        pub walking-stop : {q : ℕ} {w : Walked} → y ≡ instanceReading.Stop q → ChildrenWalk text t before log e levels row a base trail start w
+        pub walking-stop : {n q : ℕ} {w : Walked} → y ≡ instanceReading.Stop n q → ChildrenWalk text t before log e levels row a base trail start w
         walking-stop f =
             let w : instanceRead y ≡ ok (ahead .child .instance) (ahead .entry .next) = r ∙ (rw (p, c) (ahead .entry .reads)) in
             absurd (let z : _≡_ {A = ℕ} 0 1 = cc in omega arith)

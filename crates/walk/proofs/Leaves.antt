@@ -9,7 +9,7 @@ use lib.Dec.{ltb}
 use lib.ListN.{length, set, getD, drop, drop-of-length-le, length-map}
 use borrow.Author.Tests.{eq-eqb, ne-eqb, lt-ltb, le-ltb}
 use Rattle.chars.proofs.Laws.{drop-next}
-use Rattle.parts.specs.declared.Number.{Number}
+use Rattle.expressions.specs.declared.Number.{Number}
 use Rattle.parts.specs.declared.Instance.{Instance}
 use Rattle.parts.specs.declared.Array.{Array}
 use Rattle.parts.specs.declared.Array.the-variants as array

@@ -321,7 +321,7 @@ fn walk_children(
     while i < span.to {
         let entry = table::cell(cells, i);
         match parts::read_instance(text, table::place_in(entry)) {
-            InstanceReading::Stop(_) => {
+            InstanceReading::Stop(_, _) => {
                 return Walked::On(tally);
             }
             InstanceReading::Done(instance, _) => {

@@ -208,7 +208,7 @@ module _ (text t : List ℕ) (row : ℕ) {f f1 l l1 : List ℕ} {first to i : �
     runs-top d it o = rw o (omega (arith, s .bits, placed-top d next it))
 
     module _ {x place : ℕ} {y : InstanceReading} (c : x ≡ cellOf t i) (p : place ≡ placeIn x) (r : instanceRead y ≡ instanceAt text place) where
-      pub runs-stop : {e : Extent} {q : ℕ} → Ready text t e → row < e .rows → y ≡ instanceReading.Stop q → RunWrites f f1 l l1 first (fieldsIn text t e row) j
+      pub runs-stop : {e : Extent} {n q : ℕ} → Ready text t e → row < e .rows → y ≡ instanceReading.Stop n q → RunWrites f f1 l l1 first (fieldsIn text t e row) j
       runs-stop {e} ready low g =
           let v : Running text t e row f f1 l l1 first to i next j = s .each e ready low in
           let ahead : Ahead text t (v .fits .before) (definitionOf (known text t e) row .component) i (v .rest) = ahead-of h (v .until) (v .block) (v .children) in

@@ -179,7 +179,7 @@ fn write_run(
     while i < span.to {
         let entry = table::cell(cells, i);
         match parts::read_instance(text, table::place_in(entry)) {
-            InstanceReading::Stop(_) => {
+            InstanceReading::Stop(_, _) => {
                 return j;
             }
             InstanceReading::Done(instance, _) => {

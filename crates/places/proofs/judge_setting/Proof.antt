@@ -11,5 +11,5 @@ judge-setting-spec =
     (λ c. search needs)
     (λ c κs. search needs)
     (λ c κs. search needs)
-    (λ c. rw (← c .before .before .before .read-property .ensures, c .before .place .given .1))
+    (λ c. rw (← c .before .before .before .read-property .ensures, c .before .number .given .1))
     (λ c. rw (← c .before .before .before .before .before .before .read-property .ensures, c .before .before .before .before .statement .given .1, ← c .before .judge-property .ensures) (c .after-setting .ensures)))

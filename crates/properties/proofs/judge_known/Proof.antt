@@ -18,4 +18,5 @@ judge-known-spec =
     (λ c. rw (← c .before .before .before .before .before .before .is-allowed .ensures, c .before .before .before .before .before .if1 .left, ← c .before .before .before .before .slot-of .ensures, ← c .before .before .before .settings-of .ensures, ← c .before .before .given-in .ensures, ← c .before .is-given .ensures, c .if2 .taken))
     (λ c κs. search needs)
     (λ c κs. search needs)
-    (λ c. rw (← c .before .before .before .before .before .before .before .before .is-allowed .ensures, c .before .before .before .before .before .before .before .if1 .left, ← c .before .before .before .before .before .before .slot-of .ensures, ← c .before .before .before .before .before .settings-of .ensures, ← c .before .before .before .before .given-in .ensures, ← c .before .before .before .is-given .ensures, c .before .before .if2 .left, ← c .before .setting-of .ensures .0) (c .judge-value .ensures)))
+    (λ c κs. search needs)
+    (λ c. rw (← c .before .before .before .before .before .before .before .before .before .is-allowed .ensures, c .before .before .before .before .before .before .before .before .if1 .left, ← c .before .before .before .before .before .before .before .slot-of .ensures, ← c .before .before .before .before .before .before .settings-of .ensures, ← c .before .before .before .before .before .given-in .ensures, ← c .before .before .before .before .is-given .ensures, c .before .before .before .if2 .left, ← c .before .before .refusal-in .ensures, ← c .before .setting-of .ensures .0) (c .judge-settled .ensures)))

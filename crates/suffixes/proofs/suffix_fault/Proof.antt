@@ -11,5 +11,4 @@ suffix-fault-spec =
     (λ c. rw (c .enum-told .given .1))
     (λ c. rw (c .before .before .suffix .given .1, c .if1 .taken))
     (λ c κs. search needs)
-    (λ c κs. search needs)
-    (λ c. rw (c .before .before .before .before .suffix .given .1, c .before .before .if1 .left, ← c .before .suffix-range .ensures) (c .ranged-at .ensures)))
+    (λ c. rw (c .before .before .before .suffix .given .1, c .before .if1 .left) (c .number-fault .ensures)))

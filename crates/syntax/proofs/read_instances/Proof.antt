@@ -40,7 +40,7 @@ loop-again c =
 returns-2 : tie.Need-returns-2 Inv-loop μ-loop
 returns-2 c =
     let l = c .before .before .before .before .loop in
-    list-stop _ (l .at) (l .inv) (c .before .before .before .read-listed .ensures) (c .before .place .given .1)
+    list-stop _ (l .at) (l .inv) (c .before .before .before .read-listed .ensures) (c .before .number .given .1)
 
 pub read-instances-spec : {M : Type 1} → statement M
 read-instances-spec =

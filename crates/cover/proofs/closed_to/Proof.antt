@@ -1,0 +1,14 @@
+use borrow.Author.Needs.{needs}
+use Rattle.cover.proofs.Laws.{to-readers, to-writers, to-others}
+use Rattle.cover.proofs.closed_to.Statement.{statement}
+use Rattle.cover.proofs.closed_to.Tie as tie
+
+pub closed-to-spec : {M : Type 1} → statement M
+closed-to-spec =
+    tie.close
+    (tie.spec
+    (λ c κs. search needs)
+    (λ c. search to-readers)
+    (λ c κs. search needs)
+    (λ c. search to-writers)
+    (λ c. search to-others))

@@ -1,0 +1,11 @@
+pub mod Worked
+pub mod Grouping
+pub mod Readings
+pub mod Rest
+pub mod Trees
+pub mod Laws
+pub mod Plain
+pub mod Faults
+pub mod Exact
+pub mod Ends
+pub mod Regrouped

@@ -1,0 +1,55 @@
+use borrow.Author.Needs.{needs}
+use Rattle.operators.specs.Operators.{resultOf}
+use Rattle.operators.proofs.apply.Statement.{statement}
+use Rattle.operators.proofs.apply.Tie as tie
+
+pub apply-spec : {M : Type 1} → statement M
+unfolding resultOf
+apply-spec =
+    tie.close
+    (tie.spec
+    (λ c. search needs)
+    (λ c κs. search needs)
+    (λ c. search needs)
+    (λ c κs. search needs)
+    (λ c. search needs)
+    (λ c κs. search needs)
+    (λ c. search needs)
+    (λ c κs. search needs)
+    (λ c. search needs)
+    (λ c κs. search needs)
+    (λ c. search needs)
+    (λ c κs. search needs)
+    (λ c. search needs)
+    (λ c κs. search needs)
+    (λ c. search needs)
+    (λ c κs. search needs)
+    (λ c. search needs)
+    (λ c κs. search needs)
+    (λ c. search needs)
+    (λ c κs. search needs)
+    (λ c. search needs)
+    (λ c κs. search needs)
+    (λ c. search needs)
+    (λ c κs. search needs)
+    (λ c. search needs)
+    (λ c κs. search needs)
+    (λ c. search needs)
+    (λ c. search needs)
+    (λ c. search needs)
+    (λ c. rw (c .before .enum-told .given .1) (c .times .ensures))
+    (λ c. rw (c .before .enum-told2 .given .1) (c .over .ensures))
+    (λ c. rw (c .before .enum-told3 .given .1) (c .modulo .ensures))
+    (λ c. rw (c .before .enum-told4 .given .1) (c .plus .ensures))
+    (λ c. rw (c .before .enum-told5 .given .1) (c .minus .ensures))
+    (λ c. rw (c .before .enum-told6 .given .1) (c .shift-left .ensures))
+    (λ c. rw (c .before .enum-told7 .given .1) (c .shift-right .ensures))
+    (λ c. rw (c .before .enum-told8 .given .1) (c .truth-of .ensures))
+    (λ c. rw (c .before .enum-told9 .given .1) (c .truth-of2 .ensures))
+    (λ c. rw (c .before .enum-told10 .given .1) (c .truth-of3 .ensures))
+    (λ c. rw (c .before .enum-told11 .given .1) (c .truth-of4 .ensures))
+    (λ c. rw (c .before .enum-told12 .given .1) (c .truth-of5 .ensures))
+    (λ c. rw (c .before .enum-told13 .given .1) (c .truth-of6 .ensures))
+    (λ c. rw (c .enum-told14 .given .1))
+    (λ c. rw (c .enum-told15 .given .1))
+    (λ c. rw (c .enum-told16 .given .1)))

@@ -1,0 +1,14 @@
+use borrow.Author.Needs.{needs}
+use Rattle.suffixes.specs.Suffixes.{settledFault}
+use Rattle.suffixes.proofs.settle.Statement.{statement}
+use Rattle.suffixes.proofs.settle.Tie as tie
+
+pub settle-spec : {M : Type 1} → statement M
+unfolding settledFault
+settle-spec =
+    tie.close
+    (tie.spec
+    (λ c. search needs)
+    (λ c. search needs)
+    (λ c. rw (c .enum-told .given .1))
+    (λ c. rw (c .before .refusal .given .1)))
