@@ -1,7 +1,7 @@
 #!/usr/bin/env python3
 """Request 1: "Texts without operators or parentheses keep the answer they had", on the conformance packs.
 
-    kept_answers.py BEFORE AFTER      BEFORE: the pack of the base, base.pack; AFTER: the pack with request 1, level-01.pack
+    python3 tests/kept_answers.py tests/packs/base.pack crates/vector_cases/data/level-01.pack      (of the base; with request 1)
 
 Goes through the different texts of the first pack in which the second lexer, tests/word_cases.py, finds none of the new marks up to
 the end or the first bad word, behind which nothing is judged; each must have the same answer in the second pack. Prints how many they

@@ -6,10 +6,11 @@ use Prim.Native.Nat.{ℕ, zero, suc, _/_, _<_, _≤_}
 use native.Mathlib.Omega.{arith}
 use lib.ListN.{length, drop}
 use borrow.Author.Tests.{lt-ltb, le-ltb, ltb-false}
-use Rattle.chars.specs.Choice.{if_then_else_}
+use Rattle.basics.specs.Choice.{if_then_else_}
+use Rattle.basics.specs.Limits.{registerLimit, fieldLimit, registerRowWidth, fieldRowWidth}
 use Rattle.chars.proofs.Laws.{and-left}
-use Rattle.settings.specs.Settings.{isWidth}
-use Rattle.components.specs.declared.Offset.{Offset}
+use Rattle.fields.specs.Codes.{isWidth}
+use Rattle.fields.specs.declared.Offset.{Offset}
 use Rattle.bits.specs.Bits.{number}
 use Rattle.rows.specs.Rows.{Tables, tables}
 use Rattle.rows.specs.Lawful.{lawful}
@@ -21,7 +22,7 @@ use Rattle.model.specs.declared.Answer.{Answer}
 use Rattle.model.specs.declared.Answer.the-variants as answer
 use Rattle.model.specs.Model.{fits, addressOf, widthOf, wellFormed, stepped, gives, bitsOf, wordFrom, answerWith, accessNumbers, numbersWith}
 use Rattle.model.specs.Repeats.{repeats}
-use Rattle.stored.proofs.Tests.{failed, passed}
+use Rattle.field_access.proofs.Tests.{failed, passed}
 use Rattle.access.specs.Stored.{storedFields, deviceFrom, deviceIn}
 use Rattle.access.specs.declared.Restored.{Restored}
 use Rattle.access.specs.declared.Restored.the-variants as restored
@@ -46,25 +47,25 @@ module _ (x : Access) {a : Bool} (e : a ≡ wellFormed x) (y : not a ≡ false) 
   formed-rows registers paths fields labels f z = record { paths = paths; labels = labels; rows = passed f z; width = formed-width x (passed e y) }
 
 module _ (registers paths fields labels : List ℕ) {b : Bool} (f : b ≡ lawful (tables registers paths fields labels)) (z : not b ≡ false) where
-  pub few-rows : length registers / 14 ≤ 1024
+  pub few-rows : length registers / registerRowWidth ≤ registerLimit
   few-rows = rows-few (tables registers paths fields labels) (passed f z)
 
-  pub few-fields : length fields / 8 ≤ 4096
+  pub few-fields : length fields / fieldRowWidth ≤ fieldLimit
   few-fields = fields-few (tables registers paths fields labels) (passed f z)
 
   pub sound-fields : RangedFields fields
   sound-fields = all-fields (tables registers paths fields labels) (passed f z)
 
 module _ (t : Tables) (s : List ℕ) (q : lawful t ≡ true) where
-  is-short : length s < length (t .fields) / 8 → isShort t s ≡ true
+  is-short : length s < length (t .fields) / fieldRowWidth → isShort t s ≡ true
   is-short h = lt-ltb (length s) (length (deviceIn t .sizes)) (omega (arith, stored-count t q))
 
-  is-long : length (t .fields) / 8 ≤ length s → isShort t s ≡ false
+  is-long : length (t .fields) / fieldRowWidth ≤ length s → isShort t s ≡ false
   is-long h = le-ltb (length s) (length (deviceIn t .sizes)) (omega (arith, stored-count t q))
 
 reached-at : (t : Tables) (x : Access) {a : Offset} {w : ℕ} {r : Bool} → lawful t ≡ true → a ≡ addressOf x → w ≡ widthOf x
-    → r ≡ reachedRows a w (t .registers) 0 (length (t .registers) / 14) → r ≡ isReached t x
-reached-at t x q k l e = e ∙ ap₂ (λ (o : Offset) (n : ℕ). reachedRows o n (t .registers) 0 (length (t .registers) / 14)) k l ∙ stored-reached (addressOf x) (widthOf x) t q
+    → r ≡ reachedRows a w (t .registers) 0 (length (t .registers) / registerRowWidth) → r ≡ isReached t x
+reached-at t x q k l e = e ∙ ap₂ (λ (o : Offset) (n : ℕ). reachedRows o n (t .registers) 0 (length (t .registers) / registerRowWidth)) k l ∙ stored-reached (addressOf x) (widthOf x) t q
 
 -- ---- the first refusal
 
@@ -79,11 +80,11 @@ module _ (t : Tables) (s : List ℕ) (x : Access) {a : Bool} (e : a ≡ wellForm
     refusal-rows z = rw (passed e y, failed f z)
 
     module _ (z : not b ≡ false) where
-      pub refusal-short : length s < length (t .fields) / 8 → 22 ≡ refusalOf t s x
+      pub refusal-short : length s < length (t .fields) / fieldRowWidth → 22 ≡ refusalOf t s x
       unfolding refusalOf
       refusal-short h = rw (passed e y, passed f z, is-short t s (passed f z) h)
 
-      module _ {c : Bool} (h : length (t .fields) / 8 ≤ length s) (g : c ≡ fittingRows (t .fields) s 0 (length (t .fields) / 8)) where
+      module _ {c : Bool} (h : length (t .fields) / fieldRowWidth ≤ length s) (g : c ≡ fittingRows (t .fields) s 0 (length (t .fields) / fieldRowWidth)) where
         fits-all : c ≡ fits (deviceIn t .sizes) s
         fits-all = g ∙ stored-fitting t (passed f z) s h
 
@@ -92,7 +93,7 @@ module _ (t : Tables) (s : List ℕ) (x : Access) {a : Bool} (e : a ≡ wellForm
         refusal-store u = rw (passed e y, passed f z, is-long t s (passed f z) h, failed fits-all u)
 
         module _ {p : Offset} {w : ℕ} {d : Bool} (u : not c ≡ false) (k : p ≡ addressOf x) (l : w ≡ widthOf x)
-            (m : d ≡ reachedRows p w (t .registers) 0 (length (t .registers) / 14)) where
+            (m : d ≡ reachedRows p w (t .registers) 0 (length (t .registers) / registerRowWidth)) where
           pub refusal-reach : not d ≡ true → 25 ≡ refusalOf t s x
           unfolding refusalOf
           refusal-reach v = rw (passed e y, passed f z, is-long t s (passed f z) h, passed fits-all u, failed (reached-at t x (passed f z) k l m) v)
@@ -143,7 +144,7 @@ module _ (t : Tables) (s : List ℕ) (x : Access) where
     unfolding refusalOf
     is-granted = granted (wellFormed x) (lawful t) (isShort t s) (fits (deviceIn t .sizes) s) (isReached t x) refl refl refl (sym e ∙ z)
 
-    has-room : length (t .fields) / 8 ≤ length s
+    has-room : length (t .fields) / fieldRowWidth ≤ length s
     has-room = omega (arith, stored-count t (is-granted .rows), ltb-false (length s) (length (deviceIn t .sizes)) (is-granted .room))
 
     has-rows : LawfulRows (widthOf x) (t .registers) (t .fields)
@@ -159,7 +160,7 @@ module _ (t : Tables) (s : List ℕ) (x : Access) where
 
 -- what the functions of an access ask
 pub answered-asks : (registers paths fields labels s : List ℕ) (x : Access) {n : ℕ} → n ≡ refusalOf (tables registers paths fields labels) s x → n ≡ 0
-    → LawfulRows (widthOf x) registers fields × (length fields / 8 ≤ length s)
+    → LawfulRows (widthOf x) registers fields × (length fields / fieldRowWidth ≤ length s)
 answered-asks registers paths fields labels s x e z = (has-rows (tables registers paths fields labels) s x e z, has-room (tables registers paths fields labels) s x e z)
 
 -- ---- a reset
@@ -174,7 +175,7 @@ module _ (t : Tables) (s : List ℕ) {b : Bool} (f : b ≡ lawful t) where
     unfolding storeReset resetRefusal
     unlawful-store = rw (failed f z)
 
-  module _ (z : not b ≡ false) (h : length s < length (t .fields) / 8) where
+  module _ (z : not b ≡ false) (h : length s < length (t .fields) / fieldRowWidth) where
     pub short-answer : restored.Refused 22 ≡ resetAnswer t s
     unfolding resetAnswer resetRefusal
     short-answer = rw (passed f z, is-short t s (passed f z) h)
@@ -183,12 +184,12 @@ module _ (t : Tables) (s : List ℕ) {b : Bool} (f : b ≡ lawful t) where
     unfolding storeReset resetRefusal
     short-store = rw (passed f z, is-short t s (passed f z) h)
 
-  module _ (z : not b ≡ false) (h : length (t .fields) / 8 ≤ length s) where
-    pub reset-answer : {n : ℕ} → n ≡ length (t .fields) / 8 → restored.Written n ≡ resetAnswer t s
+  module _ (z : not b ≡ false) (h : length (t .fields) / fieldRowWidth ≤ length s) where
+    pub reset-answer : {n : ℕ} → n ≡ length (t .fields) / fieldRowWidth → restored.Written n ≡ resetAnswer t s
     unfolding resetAnswer resetRefusal
     reset-answer e = rw (passed f z, is-long t s (passed f z) h) (ap restored.Written (e ∙ sym (stored-count t (passed f z))))
 
-    pub reset-store : {u : List ℕ} → u ≡ resetsFrom (t .fields) 0 (length (t .fields) / 8) ++ drop (length (t .fields) / 8) s → u ≡ storeReset t s
+    pub reset-store : {u : List ℕ} → u ≡ resetsFrom (t .fields) 0 (length (t .fields) / fieldRowWidth) ++ drop (length (t .fields) / fieldRowWidth) s → u ≡ storeReset t s
     unfolding storeReset resetRefusal
     reset-store e = rw (passed f z, is-long t s (passed f z) h) (e ∙ stored-reset t (passed f z) s)
 
@@ -205,7 +206,7 @@ module _ (t : Tables) (x : Access) {a : Bool} (e : a ≡ wellFormed x) where
     retry-rows z = rw (passed e y, failed f z)
 
     module _ {p : Offset} {w : ℕ} {d : Bool} (z : not b ≡ false) (k : p ≡ addressOf x) (l : w ≡ widthOf x)
-        (m : d ≡ reachedRows p w (t .registers) 0 (length (t .registers) / 14)) where
+        (m : d ≡ reachedRows p w (t .registers) 0 (length (t .registers) / registerRowWidth)) where
       pub retry-reach : not d ≡ true → retried.Refused 25 ≡ retryOf t x
       unfolding retryOf retryRefusal
       retry-reach v = rw (passed e y, passed f z, failed (reached-at t x (passed f z) k l m) v)

@@ -8,10 +8,11 @@ use native.Mathlib.Omega.{arith}
 use lib.Dec.{eqb, leb, ltb}
 use lib.ListN.{length}
 use borrow.Author.Tests.{eqb-true, leb-true, leb-false, ltb-true, not-true}
+use Rattle.basics.specs.Limits.{registerLimit, fieldLimit, registerRowWidth, fieldRowWidth}
 use Rattle.chars.proofs.Laws.{and-left, and-right}
-use Rattle.components.specs.declared.FieldAt.{FieldAt}
-use Rattle.components.specs.Fields.{isOutside, hasUnusableEffect, isResetWide}
-use Rattle.settings.specs.Settings.{isWidth}
+use Rattle.fields.specs.declared.FieldAt.{FieldAt}
+use Rattle.fields.specs.Fields.{isOutside, hasUnusableEffect, isResetWide}
+use Rattle.fields.specs.Codes.{isWidth}
 use Rattle.rows.specs.Rows.{Tables}
 use Rattle.rows.specs.declared.RegisterRow.{RegisterRow}
 use Rattle.rows.specs.Lawful.{registerRow, fieldRow, isPlaced, isRun, isPath, isRanged, isSoundField, isFieldRow, areFieldRows, isRegisterRow, areRows, areWhole, lawful}
@@ -97,36 +98,36 @@ module _ (t : Tables) (e : lawful t ≡ true) where
   unfolding lawful
   is-whole = and-left (areWhole (length (t .registers)) (length (t .paths)) (length (t .fields)) (length (t .labels))) _ e
 
-  pub rows-few : length (t .registers) / 14 ≤ 1024
+  pub rows-few : length (t .registers) / registerRowWidth ≤ registerLimit
   rows-few = few-registers (length (t .registers)) (length (t .paths)) (length (t .fields)) (length (t .labels)) {r = true} (sym is-whole) refl
 
-  pub fields-few : length (t .fields) / 8 ≤ 4096
+  pub fields-few : length (t .fields) / fieldRowWidth ≤ fieldLimit
   fields-few = few-fields (length (t .registers)) (length (t .paths)) (length (t .fields)) (length (t .labels)) {r = true} (sym is-whole) refl
 
-  pub all-within : (j : ℕ) → j < length (t .fields) / 8 → Within 64 (fieldRow (t .fields) j)
+  pub all-within : (j : ℕ) → j < length (t .fields) / fieldRowWidth → Within 64 (fieldRow (t .fields) j)
   unfolding lawful
   all-within j h =
-      rows-within t (length (t .fields) / 8) 0 0 (length (t .registers) / 14)
+      rows-within t (length (t .fields) / fieldRowWidth) 0 0 (length (t .registers) / registerRowWidth)
       (and-right (areWhole (length (t .registers)) (length (t .paths)) (length (t .fields)) (length (t .labels))) _ e) j (omega arith) h
 
   pub all-fields : RangedFields (t .fields)
   all-fields = record { few = fields-few; order = λ j h. all-within j h .order; top = λ j h. all-within j h .top }
 
   -- what an access of a width asks of a register
-  pub row-runs : (w : ℕ) → isWidth w ≡ true → (i : ℕ) → i < length (t .registers) / 14 → Runs w (t .fields) (registerRow (t .registers) i)
+  pub row-runs : (w : ℕ) → isWidth w ≡ true → (i : ℕ) → i < length (t .registers) / registerRowWidth → Runs w (t .fields) (registerRow (t .registers) i)
   row-runs w y i h =
-      let own : isRegisterRow t (length (t .fields) / 8) i (registerRow (t .registers) i .first) ≡ true = register-each t e i h in
+      let own : isRegisterRow t (length (t .fields) / fieldRowWidth) i (registerRow (t .registers) i .first) ≡ true = register-each t e i h in
       record {
-        few = omega (arith, row-run t (length (t .fields) / 8) i (registerRow (t .registers) i .first) own, fields-few);
+        few = omega (arith, row-run t (length (t .fields) / fieldRowWidth) i (registerRow (t .registers) i .first) own, fields-few);
         usable =
             λ k l.
             let q : Within (registerRow (t .registers) i .width) (fieldRow (t .fields) (registerRow (t .registers) i .first + k)) =
-            run-within t (length (t .fields) / 8) i (registerRow (t .registers) i .first) own k l in
-            let m : registerRow (t .registers) i .width ≤ 64 = row-width t (length (t .fields) / 8) i (registerRow (t .registers) i .first) own in
+            run-within t (length (t .fields) / fieldRowWidth) i (registerRow (t .registers) i .first) own k l in
+            let m : registerRow (t .registers) i .width ≤ 64 = row-width t (length (t .fields) / fieldRowWidth) i (registerRow (t .registers) i .first) own in
             record { least = width-bounds w y .0; most = width-bounds w y .1; register = m; order = q .order; top = omega (arith, q .top) };
       }
 
   -- the store has its numbers
-  pub row-room : (s : List ℕ) → length (t .fields) / 8 ≤ length s → (i : ℕ) → i < length (t .registers) / 14
+  pub row-room : (s : List ℕ) → length (t .fields) / fieldRowWidth ≤ length s → (i : ℕ) → i < length (t .registers) / registerRowWidth
       → registerRow (t .registers) i .first + registerRow (t .registers) i .count ≤ length s
-  row-room s h i l = omega (arith, row-run t (length (t .fields) / 8) i (registerRow (t .registers) i .first) (register-each t e i l))
+  row-room s h i l = omega (arith, row-run t (length (t .fields) / fieldRowWidth) i (registerRow (t .registers) i .first) (register-each t e i l))

@@ -6,8 +6,9 @@ use Prim.Native.Nat.{ℕ, zero, suc, _+_, _-_, _/_, _<_, _≤_}
 use native.Mathlib.Omega.{arith}
 use lib.ListN.{length, length-append}
 use borrow.Author.Tests.{eqb-true}
-use Rattle.components.specs.declared.FieldAt.{FieldAt}
-use Rattle.components.specs.declared.Offset.{Offset}
+use Rattle.basics.specs.Limits.{registerRowWidth, fieldRowWidth}
+use Rattle.fields.specs.declared.FieldAt.{FieldAt}
+use Rattle.fields.specs.declared.Offset.{Offset}
 use Rattle.chars.proofs.Laws.{and-left, and-right}
 use Rattle.rows.specs.Rows.{Tables}
 use Rattle.rows.specs.declared.RegisterRow.{RegisterRow}
@@ -47,12 +48,12 @@ among-stored t all i first (suc n) e =
     ∙ among-stored t all (suc i) (first + r .count) n (and-right (isRegisterRow t all i first) _ e))
 
 -- the rows of lawful tables
-pub whole-rows : (t : Tables) → lawful t ≡ true → areRows t (length (t .fields) / 8) 0 0 (length (t .registers) / 14) ≡ true
+pub whole-rows : (t : Tables) → lawful t ≡ true → areRows t (length (t .fields) / fieldRowWidth) 0 0 (length (t .registers) / registerRowWidth) ≡ true
 unfolding lawful
 whole-rows t e = and-right (areWhole (length (t .registers)) (length (t .paths)) (length (t .fields)) (length (t .labels))) _ e
 
 pub stored-rows : (t : Tables) → lawful t ≡ true → storedFields t ≡ allFields (t .registers) (t .fields)
-stored-rows t e = among-stored t (length (t .fields) / 8) 0 0 (length (t .registers) / 14) (whole-rows t e)
+stored-rows t e = among-stored t (length (t .fields) / fieldRowWidth) 0 0 (length (t .registers) / registerRowWidth) (whole-rows t e)
 
 -- ---- the field rows, one after the other
 
@@ -103,10 +104,10 @@ rows-at t all i first (suc n) e =
     (rows-at t all (suc i) (first + r .count) n (and-right (isRegisterRow t all i first) _ e))
     ∙ ap (atRows (t .fields) first) k
 
-pub stored-at : (t : Tables) → lawful t ≡ true → fieldsAt (storedFields t) ≡ atRows (t .fields) 0 (length (t .fields) / 8)
+pub stored-at : (t : Tables) → lawful t ≡ true → fieldsAt (storedFields t) ≡ atRows (t .fields) 0 (length (t .fields) / fieldRowWidth)
 stored-at t e =
-    let n : length (t .fields) / 8 - 0 ≡ length (t .fields) / 8 = omega arith in
-    ap fieldsAt (stored-rows t e) ∙ rows-at t (length (t .fields) / 8) 0 0 (length (t .registers) / 14) (whole-rows t e) ∙ ap (atRows (t .fields) 0) n
+    let n : length (t .fields) / fieldRowWidth - 0 ≡ length (t .fields) / fieldRowWidth = omega arith in
+    ap fieldsAt (stored-rows t e) ∙ rows-at t (length (t .fields) / fieldRowWidth) 0 0 (length (t .registers) / registerRowWidth) (whole-rows t e) ∙ ap (atRows (t .fields) 0) n
 
 -- as many numbers as field rows
 pub length-sizes : (m : List View) → length (sizesOf m) ≡ length m
@@ -114,8 +115,8 @@ unfolding sizesOf
 length-sizes [] = refl
 length-sizes (c ∷ m) = ap suc (length-sizes m)
 
-pub stored-count : (t : Tables) → lawful t ≡ true → length (deviceIn t .sizes) ≡ length (t .fields) / 8
-stored-count t e = length-sizes (storedFields t) ∙ sym (length-fields (storedFields t)) ∙ ap length (stored-at t e) ∙ length-at (t .fields) 0 (length (t .fields) / 8)
+pub stored-count : (t : Tables) → lawful t ≡ true → length (deviceIn t .sizes) ≡ length (t .fields) / fieldRowWidth
+stored-count t e = length-sizes (storedFields t) ∙ sym (length-fields (storedFields t)) ∙ ap length (stored-at t e) ∙ length-at (t .fields) 0 (length (t .fields) / fieldRowWidth)
 
 -- ---- registers that are reached
 
@@ -139,9 +140,9 @@ rows-reached a w t all i first (suc n) e =
     ap (λ (x : Bool). b || x) (rows-reached a w t all (suc i) (first + r .count) n (and-right (isRegisterRow t all i first) _ e))
     ∙ sym (run-reached a w r (t .fields) (r .first) (r .count) (storedRows (t .registers) (t .fields) (suc i) n) b refl (row-some t all i first own))
 
-pub stored-reached : (a : Offset) (w : ℕ) (t : Tables) → lawful t ≡ true → reachedRows a w (t .registers) 0 (length (t .registers) / 14) ≡ anyReached (storedFields t) a w
+pub stored-reached : (a : Offset) (w : ℕ) (t : Tables) → lawful t ≡ true → reachedRows a w (t .registers) 0 (length (t .registers) / registerRowWidth) ≡ anyReached (storedFields t) a w
 stored-reached a w t e =
-    rows-reached a w t (length (t .fields) / 8) 0 0 (length (t .registers) / 14) (whole-rows t e) ∙ ap (λ (m : List View). anyReached m a w) (sym (stored-rows t e))
+    rows-reached a w t (length (t .fields) / fieldRowWidth) 0 0 (length (t .registers) / registerRowWidth) (whole-rows t e) ∙ ap (λ (m : List View). anyReached m a w) (sym (stored-rows t e))
 
 -- ---- where the fields of a register stand
 
@@ -159,10 +160,3 @@ rows-length t all i first (suc n) (suc k) e h =
     let y : first + length (rowFields r (t .fields) ++ rest) ≡ (first + r .count) + length rest = omega (arith, l) in
     let z : suc i + k ≡ i + suc k = omega arith in
     y ∙ rows-length t all (suc i) (first + r .count) n k (and-right (isRegisterRow t all i first) _ e) (omega arith) ∙ ap (λ (j : ℕ). registerRow (t .registers) j .first) z
-
--- behind those of the registers before it
-pub stored-first : (t : Tables) → lawful t ≡ true → (i : ℕ) → i < length (t .registers) / 14 → length (storedRows (t .registers) (t .fields) 0 i) ≡ registerRow (t .registers) i .first
-stored-first t e i h =
-    let z : 0 + i ≡ i = omega arith in
-    let y : length (storedRows (t .registers) (t .fields) 0 i) ≡ 0 + length (storedRows (t .registers) (t .fields) 0 i) = omega arith in
-    y ∙ rows-length t (length (t .fields) / 8) 0 0 (length (t .registers) / 14) i (whole-rows t e) h ∙ ap (λ (j : ℕ). registerRow (t .registers) j .first) z

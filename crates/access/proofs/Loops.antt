@@ -8,9 +8,10 @@ use lib.Bits.{bitOr}
 use lib.Dec.{leb}
 use lib.ListN.{length, getD, set, drop}
 use lib.Seq.{drop-cons, set-at, append-snoc}
-use Rattle.components.specs.declared.FieldAt.{FieldAt}
-use Rattle.components.specs.declared.Offset.{Offset}
-use Rattle.components.specs.declared.Register.{Register}
+use Rattle.basics.specs.Limits.{fieldLimit, registerRowWidth, fieldRowWidth, indexBound}
+use Rattle.fields.specs.declared.FieldAt.{FieldAt}
+use Rattle.fields.specs.declared.Offset.{Offset}
+use Rattle.fields.specs.declared.Register.{Register}
 use Rattle.bits.specs.Bits.{bit, number}
 use Rattle.rows.specs.Rows.{Tables, tables}
 use Rattle.rows.specs.declared.RegisterRow.{RegisterRow}
@@ -19,8 +20,8 @@ use Rattle.model.specs.declared.View.{View}
 use Rattle.model.specs.declared.Access.{Access}
 use Rattle.model.specs.Model.{size, numberAfter, stepped, fieldGives, gives, bitsOf, reachesRegister}
 use Rattle.model.specs.Repeats.{repeats, allBelow, repeatsBit}
-use Rattle.stored.specs.Ranges.{Usable}
-use Rattle.stored.proofs.Tests.{failed, passed, fits-yes}
+use Rattle.field_access.specs.Ranges.{ViewInRange}
+use Rattle.field_access.proofs.Tests.{failed, passed, fits-yes}
 use Rattle.access.specs.Runs.{LawfulRows, Runs, RangedFields, registerOf, storedField, runFields, rowFields, storedRows, reachedRows, isFitting, fittingRows, resetIn, resetsFrom}
 use Rattle.access.proofs.Facts as facts
 use Rattle.model.proofs.Joined.{length-stepped, stepped-join, word-join, repeats-join}
@@ -59,29 +60,29 @@ field-at row fields j e g = g ∙ ap (λ (o : FieldAt). storedField row o j) e
 
 -- what the functions of one register and of one field ask
 pub field-usable : (w : ℕ) (row : RegisterRow) (fields : List ℕ) (k : ℕ) {f : FieldAt} {c : View} → Runs w fields row → k < row .count → f ≡ fieldRow fields (row .first + k)
-    → c ≡ storedField row f (row .first + k) → Usable w c
+    → c ≡ storedField row f (row .first + k) → ViewInRange w c
 field-usable w row fields k r h p q = rw (field-at row fields (row .first + k) p q) (r .usable k h)
 
 abbrev rowsOf : {w : ℕ} {registers fields : List ℕ} → LawfulRows w registers fields → Tables
 rowsOf {registers = registers} {fields = fields} r = tables registers (r .paths) fields (r .labels)
 
-module _ (w : ℕ) (registers fields : List ℕ) (i : ℕ) (r : LawfulRows w registers fields) (h : i < length registers / 14) where
-  pub row-small : i ≤ 1048576
+module _ (w : ℕ) (registers fields : List ℕ) (i : ℕ) (r : LawfulRows w registers fields) (h : i < length registers / registerRowWidth) where
+  pub row-small : i ≤ indexBound
   row-small = omega (arith, facts.rows-few (rowsOf r) (r .rows))
 
   module _ {row : RegisterRow} (p : row ≡ registerRow registers i) where
     pub row-runs : Runs w fields row
     row-runs = rw p (facts.row-runs (rowsOf r) (r .rows) w (r .width) i h)
 
-    pub row-few : row .first ≤ 4096
+    pub row-few : row .first ≤ fieldLimit
     row-few = omega (arith, row-runs .few)
 
     -- the store has a register's numbers
-    module _ (s₀ s : List ℕ) (l : length fields / 8 ≤ length s₀) (e : length s ≡ length s₀) where
+    module _ (s₀ s : List ℕ) (l : length fields / fieldRowWidth ≤ length s₀) (e : length s ≡ length s₀) where
       pub row-room : row .first + row .count ≤ length s
       row-room = rw (p, e) (facts.row-room (rowsOf r) (r .rows) s₀ l i h)
 
-module _ (fields : List ℕ) (j : ℕ) {f : FieldAt} (r : RangedFields fields) (h : j < length fields / 8) (p : f ≡ fieldRow fields j) where
+module _ (fields : List ℕ) (j : ℕ) {f : FieldAt} (r : RangedFields fields) (h : j < length fields / fieldRowWidth) (p : f ≡ fieldRow fields j) where
   pub field-order : f .low .0 ≤ f .high .0
   field-order = rw p (r .order j h)
 

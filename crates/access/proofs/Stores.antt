@@ -9,11 +9,12 @@ use lib.ListN.{length, getD, drop}
 use lib.Pow.{pow-pos}
 use borrow.Author.Tests.{lt-ltb, leb-false}
 use lib.Seq.{drop-cons}
-use Rattle.properties.specs.declared.Given.{Given}
-use Rattle.properties.specs.declared.Given.the-variants.{Nothing, Number}
-use Rattle.properties.specs.Assigned.{orElse}
-use Rattle.components.specs.declared.FieldAt.{FieldAt}
-use Rattle.components.specs.Fields.{isWide, isResetWide}
+use Rattle.basics.specs.declared.Given.{Given}
+use Rattle.basics.specs.declared.Given.the-variants.{Nothing, Number}
+use Rattle.basics.specs.Given.{orElse}
+use Rattle.basics.specs.Limits.{fieldRowWidth}
+use Rattle.fields.specs.declared.FieldAt.{FieldAt}
+use Rattle.fields.specs.Fields.{isWide, isResetWide}
 use Rattle.rows.specs.Rows.{Tables}
 use Rattle.rows.specs.Lawful.{fieldRow, lawful}
 use Rattle.model.specs.declared.View.{View}
@@ -44,11 +45,11 @@ fitting-at fields s j (suc n) h =
     ap (λ (b : Bool). isFitting (getD s j 0) (fieldRow fields j) && b) (fitting-at fields s (suc j) n (omega arith))
     ∙ ap (fitsAt (fieldRow fields j ∷ atRows fields (suc j) n)) (sym (drop-cons s j 0 (omega arith)))
 
-pub stored-fitting : (t : Tables) → lawful t ≡ true → (s : List ℕ) → length (t .fields) / 8 ≤ length s
-    → fittingRows (t .fields) s 0 (length (t .fields) / 8) ≡ fits (deviceIn t .sizes) s
+pub stored-fitting : (t : Tables) → lawful t ≡ true → (s : List ℕ) → length (t .fields) / fieldRowWidth ≤ length s
+    → fittingRows (t .fields) s 0 (length (t .fields) / fieldRowWidth) ≡ fits (deviceIn t .sizes) s
 stored-fitting t e s h =
-    let n : 0 + length (t .fields) / 8 ≤ length s = omega arith in
-    fitting-at (t .fields) s 0 (length (t .fields) / 8) n ∙ ap (λ (l : List FieldAt). fitsAt l s) (sym (stored-at t e)) ∙ sym (fits-fields (storedFields t) s)
+    let n : 0 + length (t .fields) / fieldRowWidth ≤ length s = omega arith in
+    fitting-at (t .fields) s 0 (length (t .fields) / fieldRowWidth) n ∙ ap (λ (l : List FieldAt). fitsAt l s) (sym (stored-at t e)) ∙ sym (fits-fields (storedFields t) s)
 
 -- ---- a reset
 
@@ -67,10 +68,10 @@ resets-rows fields j zero = refl
 resets-rows fields j (suc n) = ap (λ (l : List ℕ). resetIn (fieldRow fields j) ∷ l) (resets-rows fields (suc j) n)
 
 pub stored-reset : (t : Tables) → lawful t ≡ true → (s : List ℕ)
-    → resetsFrom (t .fields) 0 (length (t .fields) / 8) ++ drop (length (t .fields) / 8) s ≡ resets (storedFields t) ++ drop (length (deviceIn t .sizes)) s
+    → resetsFrom (t .fields) 0 (length (t .fields) / fieldRowWidth) ++ drop (length (t .fields) / fieldRowWidth) s ≡ resets (storedFields t) ++ drop (length (deviceIn t .sizes)) s
 stored-reset t e s =
     ap₂ (λ (l : List ℕ) (n : ℕ). l ++ drop n s)
-    (resets-rows (t .fields) 0 (length (t .fields) / 8) ∙ ap resetsAt (sym (stored-at t e)) ∙ sym (resets-fields (storedFields t)))
+    (resets-rows (t .fields) 0 (length (t .fields) / fieldRowWidth) ∙ ap resetsAt (sym (stored-at t e)) ∙ sym (resets-fields (storedFields t)))
     (sym (stored-count t e))
 
 -- a reset that is no wider than its field fits
@@ -96,4 +97,4 @@ pub stored-reset-fits : (t : Tables) → lawful t ≡ true → (rest : List ℕ)
 stored-reset-fits t e rest =
     fits-fields (storedFields t) (resets (storedFields t) ++ rest)
     ∙ ap₂ (λ (l : List FieldAt) (r : List ℕ). fitsAt l (r ++ rest)) (stored-at t e) (resets-fields (storedFields t) ∙ ap resetsAt (stored-at t e))
-    ∙ resets-fit (t .fields) rest 0 (length (t .fields) / 8) (λ k l m. all-within t e k (omega arith) .narrow)
+    ∙ resets-fit (t .fields) rest 0 (length (t .fields) / fieldRowWidth) (λ k l m. all-within t e k (omega arith) .narrow)

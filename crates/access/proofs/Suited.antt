@@ -9,8 +9,9 @@ use lib.ListN.{length, getD, length-append, List·getD-append}
 use lib.Seq.{getD-append-add}
 use lib.Dec.{ltb}
 use borrow.Author.Tests.{ltb-true, ltb-false}
+use Rattle.basics.specs.Limits.{registerRowWidth, fieldRowWidth}
 use Rattle.chars.proofs.Laws.{and-left, and-right}
-use Rattle.components.specs.declared.Offset.{Offset}
+use Rattle.fields.specs.declared.Offset.{Offset}
 use Rattle.rows.specs.Rows.{Tables}
 use Rattle.rows.specs.declared.RegisterRow.{RegisterRow}
 use Rattle.rows.specs.Lawful.{registerRow, fieldRow, isRegisterRow, areRows, lawful}
@@ -29,7 +30,7 @@ use Rattle.access.proofs.Fields.{whole-rows, stored-rows, length-sizes,
 
 -- a view that shows the number j, of the field row j
 record AtRow (fields : List ℕ) (j : ℕ) (c : View) : Type 0 where
-  slot : c .slot ≡ j
+  index : c .index ≡ j
   field : c .field ≡ fieldRow fields j
 
 abbrev AtRows : List ℕ → ℕ → List View → Type 0
@@ -40,7 +41,7 @@ unfolding runFields
 run-own r fields j zero k h = absurd (not-suc-le-zero h)
 run-own r fields j (suc n) zero h =
     let z : j ≡ j + 0 = omega arith in
-    record { slot = z; field = ap (fieldRow fields) z }
+    record { index = z; field = ap (fieldRow fields) z }
 run-own r fields j (suc n) (suc k) h =
     let z : suc j + k ≡ j + suc k = omega arith in
     subst (λ (m : ℕ). AtRow fields m (viewIn (runFields r fields (suc j) n) k)) z (run-own r fields (suc j) n k (le-of-suc-le-suc h))
@@ -83,9 +84,9 @@ module _ (t : Tables) (e : lawful t ≡ true) where
   own-row k h =
       let z : 0 + k ≡ k = omega arith in
       subst (λ (j : ℕ). AtRow (t .fields) j (viewIn (storedFields t) k)) z
-      (subst (λ (cs : List View). AtRows (t .fields) 0 cs) (sym (stored-rows t e)) (rows-own t (length (t .fields) / 8) 0 0 (length (t .registers) / 14) (whole-rows t e)) k h)
+      (subst (λ (cs : List View). AtRows (t .fields) 0 cs) (sym (stored-rows t e)) (rows-own t (length (t .fields) / fieldRowWidth) 0 0 (length (t .registers) / registerRowWidth) (whole-rows t e)) k h)
 
-  below : (k : ℕ) → k < length (storedFields t) → k < length (t .fields) / 8
+  below : (k : ℕ) → k < length (storedFields t) → k < length (t .fields) / fieldRowWidth
   below k h = omega (arith, stored-count t e, length-sizes (storedFields t))
 
   pub lawful-suited : Suited (deviceIn t)
@@ -99,12 +100,12 @@ module _ (t : Tables) (e : lawful t ≡ true) where
             subst (λ (n : ℕ). n ≤ 64) (sym (sizes-at (storedFields t) f k)) z;
         each = λ k h. let c = viewIn (storedFields t) k in let o = own-row k h in
             record {
-              row = subst (λ (n : ℕ). n < length (sizesOf (storedFields t))) (sym (o .slot)) (omega (arith, length-sizes (storedFields t)));
-              same = ap (λ (n : ℕ). getD (sizesOf (storedFields t)) n 0) (o .slot) ∙ sizes-at (storedFields t) k h;
+              row = subst (λ (n : ℕ). n < length (sizesOf (storedFields t))) (sym (o .index)) (omega (arith, length-sizes (storedFields t)));
+              same = ap (λ (n : ℕ). getD (sizesOf (storedFields t)) n 0) (o .index) ∙ sizes-at (storedFields t) k h;
               usable = usable-by-12 (c .field .values) (rw (o .field) (all-within t e k (below k h) .usable));
             };
       }
 
   -- no number is written through two views: each has its own
   pub lawful-alone : (a : Offset) (w : ℕ) → Alone (deviceIn t) a w
-  lawful-alone a w = alone-own (deviceIn t) a w (λ k h. own-row k h .slot)
+  lawful-alone a w = alone-own (deviceIn t) a w (λ k h. own-row k h .index)

@@ -5,8 +5,8 @@ use mathlib.Core.List.{List, [], _∷_, _++_}
 use Prim.Native.Nat.{ℕ, zero, suc}
 use lib.Dec.{ltb}
 use lib.ListN.{length, drop}
-use Rattle.chars.specs.Choice.{if_then_else_}
-use Rattle.properties.specs.Assigned.{orElse}
+use Rattle.basics.specs.Choice.{if_then_else_}
+use Rattle.basics.specs.Given.{orElse}
 use Rattle.rows.specs.Rows.{Tables}
 use Rattle.rows.specs.Lawful.{lawful}
 use Rattle.model.specs.declared.View.{View}

@@ -5,17 +5,18 @@ use mathlib.Core.List.{List, [], _∷_, _++_}
 use Prim.Native.Nat.{ℕ, zero, suc, _+_, _-_, _/_, _^_, _<_, _≤_}
 use lib.Dec.{ltb}
 use lib.ListN.{length, getD}
-use Rattle.settings.specs.Settings.{isWidth}
-use Rattle.properties.specs.Assigned.{orElse}
-use Rattle.components.specs.declared.FieldAt.{FieldAt}
-use Rattle.components.specs.declared.Offset.{Offset}
-use Rattle.components.specs.declared.Register.{Register}
+use Rattle.fields.specs.Codes.{isWidth}
+use Rattle.basics.specs.Given.{orElse}
+use Rattle.basics.specs.Limits.{fieldLimit, registerRowWidth, fieldRowWidth}
+use Rattle.fields.specs.declared.FieldAt.{FieldAt}
+use Rattle.fields.specs.declared.Offset.{Offset}
+use Rattle.fields.specs.declared.Register.{Register}
 use Rattle.rows.specs.Rows.{tables}
 use Rattle.rows.specs.declared.RegisterRow.{RegisterRow}
 use Rattle.rows.specs.Lawful.{registerRow, fieldRow, lawful}
 use Rattle.model.specs.declared.View.{View}
 use Rattle.model.specs.Model.{reachesRegister}
-use Rattle.stored.specs.Ranges.{Usable}
+use Rattle.field_access.specs.Ranges.{ViewInRange}
 
 -- the widths of a register's row
 abbrev pub registerOf : RegisterRow → Register
@@ -23,7 +24,7 @@ registerOf r = record { width = r .width; access = r .access }
 
 -- a field with its register, and the number that it shows
 abbrev pub storedField : RegisterRow → FieldAt → ℕ → View
-storedField r f j = record { base = r .address; register = registerOf r; field = f; slot = j }
+storedField r f j = record { base = r .address; register = registerOf r; field = f; index = j }
 
 -- `n` fields of a register's row, from field row j on
 unfoldable pub runFields : RegisterRow → List ℕ → ℕ → ℕ → List View
@@ -40,7 +41,7 @@ storedRows registers fields i (suc n) = rowFields (registerRow registers i) fiel
 
 -- the fields of all registers
 abbrev pub allFields : List ℕ → List ℕ → List View
-allFields registers fields = storedRows registers fields 0 (length registers / 14)
+allFields registers fields = storedRows registers fields 0 (length registers / registerRowWidth)
 
 -- 25: a register is reached, among `n` from register row i on
 unfoldable pub reachedRows : Offset → ℕ → List ℕ → ℕ → ℕ → Bool
@@ -74,11 +75,11 @@ pub record LawfulRows (w : ℕ) (registers fields : List ℕ) : Type 0 where
 
 -- what the functions of one register ask: its fields' rows are few, and an access of this width can use each field
 pub record Runs (w : ℕ) (fields : List ℕ) (r : RegisterRow) : Type 0 where
-  pub few : r .first + r .count ≤ 4096
-  pub usable : (k : ℕ) → k < r .count → Usable w (storedField r (fieldRow fields (r .first + k)) (r .first + k))
+  pub few : r .first + r .count ≤ fieldLimit
+  pub usable : (k : ℕ) → k < r .count → ViewInRange w (storedField r (fieldRow fields (r .first + k)) (r .first + k))
 
 -- what the loop over all field rows asks
 pub record RangedFields (fields : List ℕ) : Type 0 where
-  pub few : length fields / 8 ≤ 4096
-  pub order : (j : ℕ) → j < length fields / 8 → fieldRow fields j .low .0 ≤ fieldRow fields j .high .0
-  pub top : (j : ℕ) → j < length fields / 8 → fieldRow fields j .high .0 < 64
+  pub few : length fields / fieldRowWidth ≤ fieldLimit
+  pub order : (j : ℕ) → j < length fields / fieldRowWidth → fieldRow fields j .low .0 ≤ fieldRow fields j .high .0
+  pub top : (j : ℕ) → j < length fields / fieldRowWidth → fieldRow fields j .high .0 < 64

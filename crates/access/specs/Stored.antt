@@ -11,7 +11,7 @@ use Rattle.model.specs.Model.{Device, size}
 -- the fields of a register, as declared, from number n on
 unfoldable pub storedIn : Entry → ℕ → List Field → List View
 storedIn e n [] = []
-storedIn e n (f ∷ fs) = record { base = e .address; register = e .register; field = f .at; slot = n } ∷ storedIn e (suc n) fs
+storedIn e n (f ∷ fs) = record { base = e .address; register = e .register; field = f .at; index = n } ∷ storedIn e (suc n) fs
 
 unfoldable pub storedAmong : ℕ → List Entry → List View
 storedAmong n [] = []

@@ -1,7 +1,7 @@
 // Reset, read, write and retry over lawful rows and a store: a lent slice of numbers, one for each field row.
-use components::FieldAt;
-use components::Offset;
-use components::Register;
+use fields::FieldAt;
+use fields::Offset;
+use fields::Register;
 use model::Access;
 use model::Answer;
 use model::View;
@@ -12,7 +12,8 @@ ghost use Prim.Native.Nat.{_+_, _/_, _≤_, _<_};
 ghost use lib.ListN.{length, drop};
 ghost use Rattle.bits.specs.Bits.{number};
 ghost use Rattle.rows.specs.Rows.{tables};
-ghost use Rattle.chars.specs.Choice.{if_then_else_};
+ghost use Rattle.basics.specs.Choice.{if_then_else_};
+ghost use Rattle.basics.specs.Limits.{registerLimit, fieldLimit, registerRowWidth, fieldRowWidth};
 ghost use Rattle.model.specs.Model.{widthOf, stepped, gives, bitsOf, wordFrom, accessNumbers, numbersWith};
 ghost use Rattle.model.specs.Repeats.{repeats};
 ghost use Rattle.access.specs.Stored.{storedFields, deviceFrom, deviceIn};
@@ -42,8 +43,8 @@ fn register_of(row: RegisterRow) -> Register
 }
 
 // A field with its register, and the number that it shows.
-fn stored_field(row: RegisterRow, field: FieldAt, slot: usize) -> View
-    ensures { λ r. ⌜ r ≡ storedField row field slot ⌝ }
+fn stored_field(row: RegisterRow, field: FieldAt, index: usize) -> View
+    ensures { λ r. ⌜ r ≡ storedField row field index ⌝ }
 {
     let base = row.address;
     let register = register_of(row);
@@ -51,7 +52,7 @@ fn stored_field(row: RegisterRow, field: FieldAt, slot: usize) -> View
         base,
         register,
         field,
-        slot,
+        index,
     }
 }
 
@@ -66,17 +67,17 @@ fn step_run(fields: &[u64], store: &mut [u64], access: Access, row: RegisterRow)
     while k < count {
         let j = first + k;
         let field = stored_field(row, rows::field_row(fields, j), j);
-        store[j] = stored::number_after(access, field, store[j]);
+        store[j] = field_access::number_after(access, field, store[j]);
         k += 1;
     }
 }
 
 // The store after an access that is answered.
 fn step_rows(registers: &[u64], fields: &[u64], store: &mut [u64], access: Access)
-    requires { ⌜ LawfulRows (widthOf access) (now registers) (now fields) × (length (now fields) / 8 ≤ length (now store)) ⌝ }
+    requires { ⌜ LawfulRows (widthOf access) (now registers) (now fields) × (length (now fields) / fieldRowWidth ≤ length (now store)) ⌝ }
     ensures { λ _. ⌜ now (store .exit) ≡ stepped access (allFields (now (registers .entry)) (now (fields .entry))) (now (store .entry)) ⌝ }
 {
-    let count = registers.len() / rows::REGISTER_ROW;
+    let count = registers.len() / basics::REGISTER_ROW_WIDTH;
     let mut i: usize = 0;
     while i < count {
         let row = rows::register_row(registers, i);
@@ -97,7 +98,7 @@ fn word_of_run(fields: &[u64], store: &[u64], address: Offset, width: u64, row: 
     while k < count {
         let j = first + k;
         let field = stored_field(row, rows::field_row(fields, j), j);
-        word = word | stored::word_of(address, width, field, store[j]);
+        word = word | field_access::word_of(address, width, field, store[j]);
         k += 1;
     }
     word
@@ -111,10 +112,10 @@ fn word_of_rows(
     address: Offset,
     width: u64,
 ) -> u64
-    requires { ⌜ LawfulRows width (now registers) (now fields) × (length (now fields) / 8 ≤ length (now store)) ⌝ }
+    requires { ⌜ LawfulRows width (now registers) (now fields) × (length (now fields) / fieldRowWidth ≤ length (now store)) ⌝ }
     ensures { λ r. ⌜ r ≡ number width (gives (allFields (now (registers .entry)) (now (fields .entry))) address width (bitsOf (now (store .entry)))) ⌝ }
 {
-    let count = registers.len() / rows::REGISTER_ROW;
+    let count = registers.len() / basics::REGISTER_ROW_WIDTH;
     let mut word: u64 = 0;
     let mut i: usize = 0;
     while i < count {
@@ -127,16 +128,16 @@ fn word_of_rows(
 
 // Whether an access reaches a register.
 fn is_reached(registers: &[u64], address: Offset, width: u64) -> bool
-    requires { ⌜ (8 ≤ width) × (length (now registers) / 14 ≤ 1024) ⌝ }
-    ensures { λ r. ⌜ r ≡ reachedRows address width (now (registers .entry)) 0 (length (now (registers .entry)) / 14) ⌝ }
+    requires { ⌜ (8 ≤ width) × (length (now registers) / registerRowWidth ≤ registerLimit) ⌝ }
+    ensures { λ r. ⌜ r ≡ reachedRows address width (now (registers .entry)) 0 (length (now (registers .entry)) / registerRowWidth) ⌝ }
 {
-    let count = registers.len() / rows::REGISTER_ROW;
+    let count = registers.len() / basics::REGISTER_ROW_WIDTH;
     let mut i: usize = 0;
     while i < count {
         let row = rows::register_row(registers, i);
         let base = row.address;
         let register = register_of(row);
-        if stored::reaches_register(address, width, base, register) {
+        if field_access::reaches_register(address, width, base, register) {
             return true;
         }
         i += 1;
@@ -151,15 +152,15 @@ fn is_fitting(number: u64, field: FieldAt) -> bool
 {
     let low = field.low;
     let high = field.high;
-    !components::needs_more(number, high.0 + 1 - low.0)
+    !fields::needs_more(number, high.0 + 1 - low.0)
 }
 
 // Whether the store fits: the number of each field row has no more bits than the field.
 fn are_fitting(fields: &[u64], store: &[u64]) -> bool
-    requires { ⌜ RangedFields (now fields) × (length (now fields) / 8 ≤ length (now store)) ⌝ }
-    ensures { λ r. ⌜ r ≡ fittingRows (now (fields .entry)) (now (store .entry)) 0 (length (now (fields .entry)) / 8) ⌝ }
+    requires { ⌜ RangedFields (now fields) × (length (now fields) / fieldRowWidth ≤ length (now store)) ⌝ }
+    ensures { λ r. ⌜ r ≡ fittingRows (now (fields .entry)) (now (store .entry)) 0 (length (now (fields .entry)) / fieldRowWidth) ⌝ }
 {
-    let all = fields.len() / rows::FIELD_ROW;
+    let all = fields.len() / basics::FIELD_ROW_WIDTH;
     let mut j: usize = 0;
     while j < all {
         let field = rows::field_row(fields, j);
@@ -182,13 +183,13 @@ fn first_refusal(
 ) -> u8
     ensures { λ r. ⌜ r ≡ refusalOf (tables (now (registers .entry)) (now (paths .entry)) (now (fields .entry)) (now (labels .entry))) (now (store .entry)) access ⌝ }
 {
-    if !stored::is_well_formed(access) {
+    if !field_access::is_well_formed(access) {
         return 23;
     }
     if !rows::are_lawful(registers, paths, fields, labels) {
         return 24;
     }
-    if store.len() < fields.len() / rows::FIELD_ROW {
+    if store.len() < fields.len() / basics::FIELD_ROW_WIDTH {
         return 22;
     }
     if !are_fitting(fields, store) {
@@ -196,8 +197,8 @@ fn first_refusal(
     }
     if !is_reached(
         registers,
-        stored::address_of(access),
-        stored::width_of(access),
+        field_access::address_of(access),
+        field_access::width_of(access),
     ) {
         return 25;
     }
@@ -206,7 +207,7 @@ fn first_refusal(
 
 // The word of an access that is answered: 0 for a write.
 fn word_of_access(registers: &[u64], fields: &[u64], store: &[u64], access: Access) -> u64
-    requires { ⌜ LawfulRows (widthOf access) (now registers) (now fields) × (length (now fields) / 8 ≤ length (now store)) ⌝ }
+    requires { ⌜ LawfulRows (widthOf access) (now registers) (now fields) × (length (now fields) / fieldRowWidth ≤ length (now store)) ⌝ }
     ensures { λ r. ⌜ r ≡ wordFrom (deviceFrom (allFields (now (registers .entry)) (now (fields .entry)))) access (bitsOf (now (store .entry))) ⌝ }
 {
     match access {
@@ -300,14 +301,14 @@ fn reset_of(field: FieldAt) -> u64
 {
     let values = field.values;
     let reset = values.reset;
-    properties::or_else(0, reset)
+    basics::or_else(0, reset)
 }
 
 fn put_resets(fields: &[u64], store: &mut [u64])
-    requires { ⌜ (length (now fields) / 8 ≤ 4096) × (length (now fields) / 8 ≤ length (now store)) ⌝ }
-    ensures { λ _. ⌜ now (store .exit) ≡ resetsFrom (now (fields .entry)) 0 (length (now (fields .entry)) / 8) ++ drop (length (now (fields .entry)) / 8) (now (store .entry)) ⌝ }
+    requires { ⌜ (length (now fields) / fieldRowWidth ≤ fieldLimit) × (length (now fields) / fieldRowWidth ≤ length (now store)) ⌝ }
+    ensures { λ _. ⌜ now (store .exit) ≡ resetsFrom (now (fields .entry)) 0 (length (now (fields .entry)) / fieldRowWidth) ++ drop (length (now (fields .entry)) / fieldRowWidth) (now (store .entry)) ⌝ }
 {
-    let all = fields.len() / rows::FIELD_ROW;
+    let all = fields.len() / basics::FIELD_ROW_WIDTH;
     let mut j: usize = 0;
     while j < all {
         store[j] = reset_of(rows::field_row(fields, j));
@@ -330,7 +331,7 @@ pub fn reset(
     if !rows::are_lawful(registers, paths, fields, labels) {
         return Restored::Refused(24);
     }
-    let all = fields.len() / rows::FIELD_ROW;
+    let all = fields.len() / basics::FIELD_ROW_WIDTH;
     if store.len() < all {
         return Restored::Refused(22);
     }
@@ -349,7 +350,7 @@ fn run_repeats(fields: &[u64], access: Access, row: RegisterRow) -> bool
     while k < count {
         let j = first + k;
         let field = stored_field(row, rows::field_row(fields, j), j);
-        if !stored::repeats_all(access, field) {
+        if !field_access::repeats_all(access, field) {
             return false;
         }
         k += 1;
@@ -361,7 +362,7 @@ fn rows_repeat(registers: &[u64], fields: &[u64], access: Access) -> bool
     requires { ⌜ LawfulRows (widthOf access) (now registers) (now fields) ⌝ }
     ensures { λ r. ⌜ r ≡ repeats (allFields (now (registers .entry)) (now (fields .entry))) access ⌝ }
 {
-    let count = registers.len() / rows::REGISTER_ROW;
+    let count = registers.len() / basics::REGISTER_ROW_WIDTH;
     let mut i: usize = 0;
     while i < count {
         let row = rows::register_row(registers, i);
@@ -384,7 +385,7 @@ pub fn retry(
     ensures answer { λ r. ⌜ r ≡ retryOf (tables (now (registers .entry)) (now (paths .entry)) (now (fields .entry)) (now (labels .entry))) access ⌝ }
     ensures numbers { λ r. ⌜ retryNumbers r ≡ numbersWith (retryRefusal (tables (now (registers .entry)) (now (paths .entry)) (now (fields .entry)) (now (labels .entry))) access) (if repeats (storedFields (tables (now (registers .entry)) (now (paths .entry)) (now (fields .entry)) (now (labels .entry)))) access then 1 else 0) ⌝ }
 {
-    if !stored::is_well_formed(access) {
+    if !field_access::is_well_formed(access) {
         return Retried::Refused(23);
     }
     if !rows::are_lawful(registers, paths, fields, labels) {
@@ -392,8 +393,8 @@ pub fn retry(
     }
     if !is_reached(
         registers,
-        stored::address_of(access),
-        stored::width_of(access),
+        field_access::address_of(access),
+        field_access::width_of(access),
     ) {
         return Retried::Refused(25);
     }

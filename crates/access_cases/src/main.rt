@@ -2,13 +2,13 @@
 // a u32 count, and so many commands of four little-endian u64 numbers each. tests/access_cases.py makes the cases.
 use access::Restored;
 use access::Retried;
+use case_io::LONGEST_TEXT;
+use case_io::Length;
+use case_io::MOST_CASES;
 use compile::Compiled;
-use components::Offset;
+use fields::Offset;
 use model::Access;
 use model::Answer;
-use testing::LONGEST_TEXT;
-use testing::Length;
-use testing::MOST_CASES;
 ghost use Prim.Native.Nat.{_<_, _≤_};
 
 // The rows that the tables hold: as many as a map may have; and a store with some numbers more.
@@ -52,19 +52,19 @@ fn at_most(n: usize, most: usize) -> usize
 }
 
 fn put_line(label: &[u8], n: u64) {
-    testing::put_number(label, n);
-    testing::put(b"\n");
+    case_io::put_number(label, n);
+    case_io::put(b"\n");
 }
 
-// Number `slot` of a command's bytes.
-fn number_at(bytes: &[u8; 32], slot: usize) -> u64
-    requires { ⌜ slot < 4 ⌝ }
+// Number `index` of a command's bytes.
+fn number_at(bytes: &[u8; 32], index: usize) -> u64
+    requires { ⌜ index < 4 ⌝ }
 {
     let mut value: u64 = 0;
     let mut k: usize = 8;
     while k > 0 {
         k -= 1;
-        value = (value << 8) | (testing::wide(bytes[slot * 8 + k]) as u64);
+        value = (value << 8) | (case_io::wide(bytes[index * 8 + k]) as u64);
     }
     value
 }
@@ -81,16 +81,16 @@ fn read_command() -> Command {
 
 fn put_answer(answer: Answer) {
     match answer {
-        Answer::Refused(number) => testing::put_number(b"refused=", number as u64),
-        Answer::Word(word) => testing::put_number(b"word=", word),
+        Answer::Refused(number) => case_io::put_number(b"refused=", number as u64),
+        Answer::Word(word) => case_io::put_number(b"word=", word),
     }
 }
 
 fn put_retry(retry: Retried) {
     match retry {
         Retried::Refused(number) => put_line(b" retry refused=", number as u64),
-        Retried::Safe => testing::put(b" retry=safe\n"),
-        Retried::Unsafe => testing::put(b" retry=unsafe\n"),
+        Retried::Safe => case_io::put(b" retry=safe\n"),
+        Retried::Unsafe => case_io::put(b" retry=unsafe\n"),
     }
 }
 
@@ -161,10 +161,10 @@ fn run_access(
 fn show_store(store: &[u64]) {
     let mut k = 0;
     while k < store.len() {
-        testing::put_number(b" ", store[k]);
+        case_io::put_number(b" ", store[k]);
         k += 1;
     }
-    testing::put(b"\n");
+    case_io::put(b"\n");
 }
 
 // Commands on the lent parts: 0 is a reset, 1 a read, 2 a write, 5 shows the store.
@@ -304,10 +304,10 @@ fn open_map(
             let n = at_most(count, 1024);
             let m = at_most(all, 4096);
             Lengths {
-                registers: n * rows::REGISTER_ROW,
-                paths: n * rows::PATH_ROW,
-                fields: m * rows::FIELD_ROW,
-                labels: m * rows::NAME_ROW,
+                registers: n * basics::REGISTER_ROW_WIDTH,
+                paths: n * basics::PATH_ROW_WIDTH,
+                fields: m * basics::FIELD_ROW_WIDTH,
+                labels: m * basics::NAME_WIDTH,
                 store: m + PAST,
             }
         }
@@ -354,13 +354,13 @@ fn run_on_map(text: &[u8], commands: usize) {
 
 // Runs the next case; answers whether there was one.
 fn run_case(case: u64, room: &mut [u8]) -> bool {
-    let text = testing::read_text(room);
+    let text = case_io::read_text(room);
     let end = text.length;
     if !text.whole {
         return false;
     }
     put_line(b"case ", case);
-    match testing::read_length(libc::STDIN_FILENO) {
+    match case_io::read_length(libc::STDIN_FILENO) {
         Length::Of(commands) => run_on_map(&room[..end], commands),
         Length::Missing => {}
     }

@@ -6,10 +6,10 @@ use Prim.Native.Nat.{ℕ}
 use native.Mathlib.Omega.{arith}
 use lib.Dec.{eqb}
 use borrow.Author.Tests.{eqb-true, ne-eqb}
-use Rattle.chars.specs.Choice.{if_then_else_}
-use Rattle.settings.specs.Codes.{readCode, writeCode}
-use Rattle.settings.specs.declared.ReadEffect.the-variants as onread
-use Rattle.settings.specs.declared.WriteEffect.the-variants as onwrite
+use Rattle.basics.specs.Choice.{if_then_else_}
+use Rattle.fields.specs.Codes.{readCode, writeCode}
+use Rattle.fields.specs.declared.ReadEffect.the-variants as onread
+use Rattle.fields.specs.declared.WriteEffect.the-variants as onwrite
 use Rattle.actions.specs.declared.Action.{Action}
 use Rattle.actions.specs.declared.Action.the-variants.{Kept, Cleared, Set, Inverted}
 use Rattle.actions.specs.Actions.{apply, followedBy, inverse, onOne, onZero, copied, writeAction, readAction}

@@ -2,10 +2,10 @@
 use mathlib.Core.Bool.{Bool, true, false, not}
 use Prim.Native.Nat.{ℕ}
 use lib.Dec.{eqb}
-use Rattle.chars.specs.Choice.{if_then_else_}
-use Rattle.settings.specs.Codes.{readCode, writeCode}
-use Rattle.settings.specs.declared.ReadEffect.the-variants as onread
-use Rattle.settings.specs.declared.WriteEffect.the-variants as onwrite
+use Rattle.basics.specs.Choice.{if_then_else_}
+use Rattle.fields.specs.Codes.{readCode, writeCode}
+use Rattle.fields.specs.declared.ReadEffect.the-variants as onread
+use Rattle.fields.specs.declared.WriteEffect.the-variants as onwrite
 use Rattle.actions.specs.declared.Action.{Action}
 use Rattle.actions.specs.declared.Action.the-variants.{Kept, Cleared, Set, Inverted}
 

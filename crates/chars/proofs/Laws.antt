@@ -9,7 +9,7 @@ use lib.Dec.{eqb, leb}
 use lib.ListN.{length, drop, getD, take, drop-of-length-le, length-drop}
 use lib.Seq.{drop-cons}
 use borrow.Author.Tests.{eq-eqb, ne-eqb, le-leb, lt-leb, leb-true, leb-false, eqb-true}
-use Rattle.chars.specs.Choice.{if_then_else_}
+use Rattle.basics.specs.Choice.{if_then_else_}
 use Rattle.chars.specs.Ascii.{isWithin}
 use Rattle.chars.specs.Run.{run, runEnd, every}
 use Rattle.chars.specs.Same.{sameBytes}

@@ -1,4 +1,3 @@
-pub mod Choice
 pub mod Ascii
 pub mod Run
 pub mod Same

@@ -4,26 +4,23 @@ use mathlib.Core.Bool.{Bool, true, false}
 use mathlib.Core.List.{List, [], _∷_}
 use Prim.Native.Nat.{ℕ, zero, suc, _+_, _<_}
 use native.Mathlib.Omega.{arith}
-use lib.Dec.{ltb}
-use lib.ListN.{length, getD}
-use Rattle.chars.specs.Choice.{if_then_else_}
-use Rattle.parts.specs.declared.Kind.{Kind}
-use Rattle.parts.specs.declared.Kind.the-variants as kind
+use lib.ListN.{length}
+use Rattle.basics.specs.Choice.{if_then_else_}
 use Rattle.components.specs.Components.{kindOf}
-use Rattle.components.specs.declared.BitPlace.{BitPlace}
+use Rattle.fields.specs.declared.BitPlace.{BitPlace}
 use Rattle.components.specs.declared.Component.{Component}
 use Rattle.components.specs.declared.Component.the-variants as component
-use Rattle.table.specs.Definitions.{Child, Definition, definitionOf, noDefinition}
-use Rattle.closing.specs.Registers.{placement, bitAbove, firstBit}
-use Rattle.places.specs.Places.{mayHold}
-use Rattle.places.specs.declared.Place.the-variants.{Inside}
-use Rattle.sensible.specs.Sensible.{Sensible, ChildFits, ChildrenFit, children-none, children-more, DefinitionFits}
-use Rattle.shapes.proofs.Rows.{RowFits, row-fits}
-use Rattle.faithful.specs.Sound.{fieldsIn}
+use Rattle.cells.specs.Definitions.{Child, Definition, definitionOf}
+use Rattle.closing_rules.specs.Registers.{placement, bitAbove, firstBit}
+use Rattle.scopes.specs.Places.{mayHold}
+use Rattle.scopes.specs.declared.Enclosing.the-variants.{Inside}
+use Rattle.definition_laws.specs.Sensible.{Sensible, ChildrenFit, children-none, children-more}
+use Rattle.sizes.proofs.Rows.{row-fits}
+use Rattle.row_laws.specs.Sound.{fieldsIn}
 use Rattle.rows.specs.Rows.{Field}
-use Rattle.map.specs.Visits.{Visit}
-use Rattle.map.specs.Whole.{isRegister, isRegisterVisit, registersAmong, fieldsAmong}
-use Rattle.writing.specs.Entries.{bytesIn, withField, rowFields, entryOf, entriesOf}
+use Rattle.map_rules.specs.Visits.{Visit}
+use Rattle.map_rules.specs.Whole.{isRegister, isRegisterVisit, registersAmong, fieldsAmong}
+use Rattle.row_writer.specs.Entries.{bytesIn, withField, rowFields, entriesOf}
 
 -- a definition that is a register is one of the table's
 register-low : (table : List Definition) (n : ℕ) → isRegister (definitionOf table n .component) ≡ true → n < length table

@@ -7,16 +7,18 @@ use native.Mathlib.Omega.{arith}
 use native.Mathlib.Numerals.{add-one}
 use lib.Dec.{leb, ltb}
 use lib.ListN.{length, set, take, drop, length-set, take-append-drop}
-use lib.Seq.{take-suc-set, drop-set-lt, append-snoc}
+use lib.Seq.{take-suc-set, drop-set-lt}
 use borrow.Author.Tests.{ltb-true, ltb-false, le-leb, lt-leb}
-use Rattle.chars.specs.Choice.{if_then_else_}
-use Rattle.properties.specs.Judged.{Judged, fault, fine}
-use Rattle.table.specs.Cells.{written}
-use Rattle.rows.specs.Rows.{Entry, Map, Tables, tables, tablesOf, registerTable, pathTable, fieldTable, labelTable}
-use Rattle.faithful.specs.Sound.{fieldsIn}
-use Rattle.faithful.proofs.Tables.{length-registerTable, length-pathTable, length-fieldTable, length-labelTable}
+use Rattle.basics.specs.Limits.{registerRowWidth, fieldRowWidth, nameWidth, pathRowWidth}
+use Rattle.basics.specs.Choice.{if_then_else_}
+use Rattle.basics.specs.Judged.{Judged, fine}
+use Rattle.basics.specs.Slices.{written}
+use Rattle.map_walk.specs.declared.Counts.{Counts}
+use Rattle.rows.specs.Rows.{Map, Tables, tables, tablesOf}
+use Rattle.row_laws.specs.Sound.{fieldsIn}
+use Rattle.row_laws.proofs.Tables.{length-registerTable, length-pathTable, length-fieldTable, length-labelTable}
 use Rattle.compile.specs.declared.Compiled.{Compiled}
-use Rattle.compile.specs.declared.Compiled.the-variants.{Refused, Accepted}
+use Rattle.compile.specs.declared.Compiled.the-variants.{Accepted}
 use Rattle.compile.specs.Compiled.{isShort, refused, answered, over, overAll, lentAfter}
 use Rattle.compile.specs.Stages.{hasRoom}
 
@@ -48,21 +50,21 @@ four-tests false false true d = refl
 four-tests false false false true = refl
 four-tests false false false false = refl
 
-module _ (lent : Tables) (m : Map) {registers fields : ℕ} (e : registers ≡ length (m .entries)) (f : fields ≡ fieldsIn (m .entries)) where
-  pub has-room : hasRoom (length (lent .registers)) (length (lent .paths)) (length (lent .fields)) (length (lent .labels)) registers fields ≡ not (isShort lent (tablesOf m))
+module _ (lent : Tables) (m : Map) {counts : Counts} (e : counts .registers ≡ length (m .entries)) (f : counts .fields ≡ fieldsIn (m .entries)) where
+  pub has-room : hasRoom (length (lent .registers)) (length (lent .paths)) (length (lent .fields)) (length (lent .labels)) counts ≡ not (isShort lent (tablesOf m))
   unfolding hasRoom isShort
   has-room =
       rw (e, f, length-registerTable 0 (m .entries), length-pathTable (m .name) (m .entries), length-fieldTable (m .entries), length-labelTable (m .entries))
       (rw (
-        not-short (length (lent .registers)) (length (m .entries) * 14),
-        not-short (length (lent .paths)) (length (m .entries) * 288),
-        not-short (length (lent .fields)) (fieldsIn (m .entries) * 8),
-        not-short (length (lent .labels)) (fieldsIn (m .entries) * 32),
+        not-short (length (lent .registers)) (length (m .entries) * registerRowWidth),
+        not-short (length (lent .paths)) (length (m .entries) * pathRowWidth),
+        not-short (length (lent .fields)) (fieldsIn (m .entries) * fieldRowWidth),
+        not-short (length (lent .labels)) (fieldsIn (m .entries) * nameWidth),
       )
-      (four-tests (ltb (length (lent .registers)) (length (m .entries) * 14)) (ltb (length (lent .paths)) (length (m .entries) * 288))
-      (ltb (length (lent .fields)) (fieldsIn (m .entries) * 8)) (ltb (length (lent .labels)) (fieldsIn (m .entries) * 32))))
+      (four-tests (ltb (length (lent .registers)) (length (m .entries) * registerRowWidth)) (ltb (length (lent .paths)) (length (m .entries) * pathRowWidth))
+      (ltb (length (lent .fields)) (fieldsIn (m .entries) * fieldRowWidth)) (ltb (length (lent .labels)) (fieldsIn (m .entries) * nameWidth))))
 
-  module _ {j : Judged Map} (z : j ≡ fine m) {b : Bool} (y : b ≡ hasRoom (length (lent .registers)) (length (lent .paths)) (length (lent .fields)) (length (lent .labels)) registers fields) where
+  module _ {j : Judged Map} (z : j ≡ fine m) {b : Bool} (y : b ≡ hasRoom (length (lent .registers)) (length (lent .paths)) (length (lent .fields)) (length (lent .labels)) counts) where
     short-is : not b ≡ isShort lent (tablesOf m)
     short-is = ap not (y ∙ has-room) ∙ twice (isShort lent (tablesOf m))
       where
@@ -88,10 +90,10 @@ module _ (lent : Tables) (m : Map) {registers fields : ℕ} (e : registers ≡ l
       is-long : isShort lent (tablesOf m) ≡ false
       is-long = sym short-is ∙ x
 
-      pub room-accepts : Accepted registers fields ≡ answered lent j
+      pub room-accepts : Accepted (counts .registers) (counts .fields) ≡ answered lent j
       unfolding answered
       room-accepts =
-          ap (λ (k : ℕ). Accepted k fields) e ∙ ap (λ (k : ℕ). Accepted (length (m .entries)) k) f
+          ap (λ (k : ℕ). Accepted k (counts .fields)) e ∙ ap (λ (k : ℕ). Accepted (length (m .entries)) k) f
           ∙ ap (λ (k : Bool). if k then refused 22 0 else Accepted (length (m .entries)) (fieldsIn (m .entries))) (sym is-long) ∙ ap (answered lent) (sym z)
 
       long-four : (a b c d : Bool) → ((a || b) || (c || d)) ≡ false → (a ≡ false) × (b ≡ false) × (c ≡ false) × (d ≡ false)
@@ -126,24 +128,24 @@ module _ (lent : Tables) (m : Map) {registers fields : ℕ} (e : registers ≡ l
           ∙ ap (lentAfter lent) (sym z)
 
 -- the four tests, one after another
-module _ (registers paths fields labels count all : ℕ) where
-  pub room-registers : registers < count * 14 → false ≡ hasRoom registers paths fields labels count all
+module _ (registers paths fields labels : ℕ) (counts : Counts) where
+  pub room-registers : registers < counts .registers * registerRowWidth → false ≡ hasRoom registers paths fields labels counts
   unfolding hasRoom
-  room-registers h = rw (lt-leb (count * 14) registers h)
+  room-registers h = rw (lt-leb (counts .registers * registerRowWidth) registers h)
 
-  module _ (a : count * 14 ≤ registers) where
-    pub room-paths : paths < count * 288 → false ≡ hasRoom registers paths fields labels count all
+  module _ (a : counts .registers * registerRowWidth ≤ registers) where
+    pub room-paths : paths < counts .registers * pathRowWidth → false ≡ hasRoom registers paths fields labels counts
     unfolding hasRoom
-    room-paths h = rw (le-leb (count * 14) registers a, lt-leb (count * 288) paths h)
+    room-paths h = rw (le-leb (counts .registers * registerRowWidth) registers a, lt-leb (counts .registers * pathRowWidth) paths h)
 
-    module _ (b : count * 288 ≤ paths) where
-      pub room-fields : fields < all * 8 → false ≡ hasRoom registers paths fields labels count all
+    module _ (b : counts .registers * pathRowWidth ≤ paths) where
+      pub room-fields : fields < counts .fields * fieldRowWidth → false ≡ hasRoom registers paths fields labels counts
       unfolding hasRoom
-      room-fields h = rw (le-leb (count * 14) registers a, le-leb (count * 288) paths b, lt-leb (all * 8) fields h)
+      room-fields h = rw (le-leb (counts .registers * registerRowWidth) registers a, le-leb (counts .registers * pathRowWidth) paths b, lt-leb (counts .fields * fieldRowWidth) fields h)
 
-      pub room-labels : all * 8 ≤ fields → leb (all * 32) labels ≡ hasRoom registers paths fields labels count all
+      pub room-labels : counts .fields * fieldRowWidth ≤ fields → leb (counts .fields * nameWidth) labels ≡ hasRoom registers paths fields labels counts
       unfolding hasRoom
-      room-labels h = rw (le-leb (count * 14) registers a, le-leb (count * 288) paths b, le-leb (all * 8) fields h)
+      room-labels h = rw (le-leb (counts .registers * registerRowWidth) registers a, le-leb (counts .registers * pathRowWidth) paths b, le-leb (counts .fields * fieldRowWidth) fields h)
 
 pub tables-are : {a a′ b b′ c c′ d d′ : List ℕ} → a ≡ a′ → b ≡ b′ → c ≡ c′ → d ≡ d′ → tables a b c d ≡ tables a′ b′ c′ d′
 tables-are e f g h = rw (e, f, g, h)

@@ -4,24 +4,23 @@ use mathlib.Core.List.{List, [], _∷_, _++_}
 use Prim.Native.Nat.{ℕ}
 use lib.Dec.{ltb}
 use lib.ListN.{length, drop}
-use Rattle.chars.specs.Choice.{if_then_else_}
-use Rattle.syntax.specs.Grammar.{fileAt}
-use Rattle.properties.specs.Judged.{Judged, fault, fine, onward}
-use Rattle.rules.specs.Judge.{Meaning, found}
+use Rattle.basics.specs.Choice.{if_then_else_}
+use Rattle.basics.specs.Judged.{Judged, fault, fine, onward, found}
+use Rattle.cells.specs.Definitions.{definitionOf}
+use Rattle.rules.specs.Judge.{Meaning}
 use Rattle.rules.specs.Rules.{ruled}
-use Rattle.faithful.specs.Sound.{fieldsIn}
+use Rattle.row_laws.specs.Sound.{fieldsIn}
 use Rattle.rows.specs.Rows.{Map, Tables, tables, tablesOf}
-use Rattle.map.specs.Whole.{mapVisits, mapFault, registersAmong}
-use Rattle.title.specs.Title.{titleIn}
-use Rattle.writing.specs.Entries.{bytesIn, entriesOf}
+use Rattle.map_rules.specs.Whole.{mapVisits, mapFault, registersAmong}
+use Rattle.row_writer.specs.Entries.{bytesIn, entriesOf}
 use Rattle.compile.specs.declared.Compiled.{Compiled}
 use Rattle.compile.specs.declared.Compiled.the-variants.{Refused, Accepted}
 
--- the map of a text: its name, and its registers in map order
+-- the map of a text: the name of its definition, and its registers in map order
 abbrev pub mapOf : List ℕ → Meaning → Map
 mapOf text m =
     record {
-      name = bytesIn text (titleIn (fileAt text));
+      name = bytesIn text (definitionOf (m .table) (m .map) .name);
       entries = entriesOf text (m .table) (registersAmong (m .table) (mapVisits m));
     }
 

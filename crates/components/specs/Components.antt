@@ -1,21 +1,21 @@
 -- The components of a text with their effective values.
-use Prim.Native.Nat.{ℕ}
 use Rattle.parts.specs.declared.Kind.{Kind}
 use Rattle.parts.specs.declared.Kind.the-variants as kind
-use Rattle.settings.specs.Codes.{accessCode, readCode, writeCode}
-use Rattle.settings.specs.declared.Access.the-variants as access
-use Rattle.settings.specs.declared.ReadEffect.the-variants as onread
-use Rattle.settings.specs.declared.WriteEffect.the-variants as onwrite
-use Rattle.properties.specs.Assigned.{orElse}
+use Rattle.fields.specs.Codes.{accessCode, readCode, writeCode}
+use Rattle.fields.specs.declared.AccessRight.the-variants as access
+use Rattle.fields.specs.declared.ReadEffect.the-variants as onread
+use Rattle.fields.specs.declared.WriteEffect.the-variants as onwrite
+use Rattle.basics.specs.Given.{orElse}
 use Rattle.properties.specs.declared.Settings.{Settings}
-use Rattle.components.specs.declared.FieldType.{FieldType}
+use Rattle.fields.specs.declared.FieldType.{FieldType}
 use Rattle.parts.specs.declared.Suffix.{Suffix}
 use Rattle.parts.specs.declared.Suffix.the-variants as suffix
 use Rattle.components.specs.declared.Start.{Start}
 use Rattle.components.specs.declared.Start.the-variants as start
-use Rattle.components.specs.declared.Register.{Register}
+use Rattle.fields.specs.declared.Register.{Register}
 use Rattle.components.specs.declared.Component.{Component}
 use Rattle.components.specs.declared.Component.the-variants as component
+use Rattle.fields.specs.Fields.{standardWidth}
 
 -- "both default to `rw`"; a field without an effect keeps what is read and takes what is written
 abbrev pub fieldType : Settings → FieldType
@@ -27,10 +27,6 @@ fieldType s =
       onwrite = orElse (writeCode onwrite.Plain) (s .onwrite);
       reset = s .reset;
     }
-
--- "A register without a width gets the standard's 32"
-abbrev pub standardWidth : ℕ
-standardWidth = 32
 
 -- "`accesswidth` defaults to `regwidth`"
 abbrev pub registerOf : Settings → Register

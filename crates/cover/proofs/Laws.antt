@@ -9,10 +9,10 @@ use lib.Dec.{eqb, leb, ltb}
 use lib.Pow.{pow-pos, pow-mono, shl-exact, high, ones-lt, ones-split}
 use lib.Bits.{bitAnd, bitOr}
 use borrow.Author.Tests.{ltb-true, leb-true, leb-false, le-leb, lt-leb, eqb-true, eq-eqb, ne-eqb}
-use Rattle.settings.specs.Codes.{accessCode}
-use Rattle.settings.specs.declared.Access.the-variants as access
-use Rattle.components.specs.Fields.{isReadWritePair, isOverlap}
-use Rattle.components.specs.declared.FieldAt.{FieldAt}
+use Rattle.fields.specs.Codes.{accessCode}
+use Rattle.fields.specs.declared.AccessRight.the-variants as access
+use Rattle.fields.specs.Fields.{isReadWritePair, isOverlap}
+use Rattle.fields.specs.declared.FieldAt.{FieldAt}
 use Rattle.bits.specs.Bits.{nonzero, digit, bit, number}
 use Rattle.bits.proofs.BitLaws.{nonzero-test, number-ext, number-bit, bit-number, or-number, and-number}
 use Rattle.cover.specs.declared.Cover.{Cover}

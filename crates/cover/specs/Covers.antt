@@ -2,11 +2,11 @@
 use mathlib.Core.Bool.{Bool, false, _||_, _&&_, not}
 use Prim.Native.Nat.{ℕ, zero, suc}
 use lib.Dec.{eqb, leb, ltb}
-use Rattle.chars.specs.Choice.{if_then_else_}
-use Rattle.settings.specs.Codes.{accessCode}
-use Rattle.settings.specs.declared.Access.the-variants as access
-use Rattle.components.specs.Fields.{isReadWritePair}
-use Rattle.components.specs.declared.FieldAt.{FieldAt}
+use Rattle.basics.specs.Choice.{if_then_else_}
+use Rattle.fields.specs.Codes.{accessCode}
+use Rattle.fields.specs.declared.AccessRight.the-variants as access
+use Rattle.fields.specs.Fields.{isReadWritePair}
+use Rattle.fields.specs.declared.FieldAt.{FieldAt}
 use Rattle.bits.specs.Bits.{bit, number}
 use Rattle.cover.specs.declared.Cover.{Cover}
 

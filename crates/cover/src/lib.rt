@@ -1,10 +1,10 @@
 // Which bits of a register are closed to a field because earlier fields have them, for rule 16.
-use components::FieldAt;
-use settings::Access;
+use fields::AccessRight;
+use fields::FieldAt;
 ghost use mathlib.Core.Path.{_≡_};
 ghost use mathlib.Core.Bool.{true};
 ghost use Rattle.bits.specs.Bits.{number};
-ghost use Rattle.cover.specs.Covers.{isNarrow, hasBit, closes, closedTo, closedBy, meetsIn, nothingCovered, coverWith};
+ghost use Rattle.cover.specs.Covers.{isNarrow, hasBit, closedTo, closedBy, meetsIn, nothingCovered, coverWith};
 
 const ALL: u64 = 18446744073709551615;
 
@@ -51,7 +51,7 @@ fn closed_by(access: u64, field: FieldAt, word: u64) -> u64
     requires { ⌜ isNarrow field ≡ true ⌝ }
     ensures { λ r. ⌜ r ≡ closedBy access field word ⌝ }
 {
-    if components::is_pair(access, field.values.sw) {
+    if fields::is_pair(access, field.values.sw) {
         return word;
     }
     word | bits_of(field)
@@ -61,10 +61,10 @@ fn closed_by(access: u64, field: FieldAt, word: u64) -> u64
 fn closed_to(access: u64, cover: Cover) -> u64
     ensures { λ r. ⌜ r ≡ closedTo access cover ⌝ }
 {
-    if access == settings::access_code(Access::R) {
+    if access == fields::access_code(AccessRight::R) {
         return cover.readers;
     }
-    if access == settings::access_code(Access::W) {
+    if access == fields::access_code(AccessRight::W) {
         return cover.writers;
     }
     cover.others
@@ -84,8 +84,8 @@ pub fn with_field(cover: Cover, field: FieldAt) -> Cover
     ensures { λ r. ⌜ r ≡ coverWith cover field ⌝ }
 {
     Cover {
-        readers: closed_by(settings::access_code(Access::R), field, cover.readers),
-        writers: closed_by(settings::access_code(Access::W), field, cover.writers),
-        others: closed_by(settings::access_code(Access::Na), field, cover.others),
+        readers: closed_by(fields::access_code(AccessRight::R), field, cover.readers),
+        writers: closed_by(fields::access_code(AccessRight::W), field, cover.writers),
+        others: closed_by(fields::access_code(AccessRight::Na), field, cover.others),
     }
 }

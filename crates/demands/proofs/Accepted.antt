@@ -6,14 +6,15 @@ use Prim.Native.Nat.{ℕ, _*_}
 use lib.ListN.{length, take, drop}
 use lib.Seq.{take-at}
 use native.Mathlib.Omega.{arith}
-use Rattle.chars.specs.Choice.{if_then_else_}
-use Rattle.properties.specs.Judged.{Judged, fault, fine}
+use Rattle.basics.specs.Choice.{if_then_else_}
+use Rattle.basics.specs.Judged.{Judged, fault, fine}
+use Rattle.basics.specs.Limits.{registerRowWidth, fieldRowWidth, nameWidth, pathRowWidth}
 use Rattle.rows.specs.Rows.{Map, Tables, registerTable, pathTable, fieldTable, labelTable, tablesOf}
-use Rattle.faithful.specs.Sound.{fieldsIn}
-use Rattle.faithful.proofs.Tables.{length-registerTable, length-pathTable, length-fieldTable, length-labelTable}
+use Rattle.row_laws.specs.Sound.{fieldsIn}
+use Rattle.row_laws.proofs.Tables.{length-registerTable, length-pathTable, length-fieldTable, length-labelTable}
 use Rattle.compile.specs.declared.Compiled.the-variants.{Accepted}
 use Rattle.compile.specs.Compiled.{compiled, isShort, refused, answered, over, overAll, lentAfter}
-use Rattle.lawful.proofs.Lawful.{accepted-lawful, accepted-read}
+use Rattle.compile_laws.proofs.Lawful.{accepted-lawful, accepted-read}
 use Rattle.model.specs.Model.{Words}
 use Rattle.access.specs.Stored.{storedOf, storedFields}
 use Rattle.access.specs.Perform.{resetRefusal, storeReset, Fitting}
@@ -41,10 +42,10 @@ first-over rows lent n e = take-at rows (drop (length rows) lent) n e
 first-rows : (m : Map) (lent : Tables) → firstRows (length (m .entries)) (fieldsIn (m .entries)) (overAll (tablesOf m) lent) ≡ tablesOf m
 first-rows m lent =
     rw (
-      first-over (registerTable 0 (m .entries)) (lent .registers) (length (m .entries) * 14) (length-registerTable 0 (m .entries)),
-      first-over (pathTable (m .name) (m .entries)) (lent .paths) (length (m .entries) * 288) (length-pathTable (m .name) (m .entries)),
-      first-over (fieldTable (m .entries)) (lent .fields) (fieldsIn (m .entries) * 8) (length-fieldTable (m .entries)),
-      first-over (labelTable (m .entries)) (lent .labels) (fieldsIn (m .entries) * 32) (length-labelTable (m .entries)),
+      first-over (registerTable 0 (m .entries)) (lent .registers) (length (m .entries) * registerRowWidth) (length-registerTable 0 (m .entries)),
+      first-over (pathTable (m .name) (m .entries)) (lent .paths) (length (m .entries) * pathRowWidth) (length-pathTable (m .name) (m .entries)),
+      first-over (fieldTable (m .entries)) (lent .fields) (fieldsIn (m .entries) * fieldRowWidth) (length-fieldTable (m .entries)),
+      first-over (labelTable (m .entries)) (lent .labels) (fieldsIn (m .entries) * nameWidth) (length-labelTable (m .entries)),
     )
 
 -- as many register rows and field rows as `compile` answers are the rows of the text's map

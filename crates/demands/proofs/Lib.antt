@@ -1,3 +1,3 @@
 pub mod Rows
 pub mod Accepted
-pub mod Sums
+pub mod Classroom

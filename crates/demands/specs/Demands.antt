@@ -6,9 +6,10 @@ use mathlib.Core.Logic.{_↔_}
 use mathlib.Core.List.{List, _++_}
 use Prim.Native.Nat.{ℕ, _*_}
 use lib.ListN.{take}
-use Rattle.chars.specs.Choice.{if_then_else_}
-use Rattle.properties.specs.Judged.{fine}
-use Rattle.components.specs.declared.Offset.{Offset}
+use Rattle.basics.specs.Choice.{if_then_else_}
+use Rattle.basics.specs.Judged.{fine}
+use Rattle.basics.specs.Limits.{registerRowWidth, fieldRowWidth, nameWidth, pathRowWidth}
+use Rattle.fields.specs.declared.Offset.{Offset}
 use Rattle.actions.specs.Actions.{followedBy}
 use Rattle.rows.specs.Rows.{Map, Tables, tables, tablesOf}
 use Rattle.compile.specs.Compiled.{compiled}
@@ -24,7 +25,7 @@ use Rattle.access.specs.Perform.{refusalOf, answerOf, storeAfter, retryOf, Fitt
 -- the first rows of lent tables: so many register rows and so many field rows
 abbrev pub firstRows : ℕ → ℕ → Tables → Tables
 firstRows registers fields t =
-    tables (take (registers * 14) (t .registers)) (take (registers * 288) (t .paths)) (take (fields * 8) (t .fields)) (take (fields * 32) (t .labels))
+    tables (take (registers * registerRowWidth) (t .registers)) (take (registers * pathRowWidth) (t .paths)) (take (fields * fieldRowWidth) (t .fields)) (take (fields * nameWidth) (t .labels))
 
 -- rows that are those of "the map of an accepted text"
 pub record RowsOf (text : List ℕ) (t : Tables) : Type 0 where
@@ -58,5 +59,5 @@ pub record Demand3 (t : Tables) : Type 0 where
   -- "Two fitting stores alike in the bits that a read reaches give it the same word."
   pub alike : (a : Offset) (w : ℕ) (s u : List ℕ) → Fitting t s → Fitting t u
       → ((k i : ℕ) → Shown (storedFields t) k i → reachesBit a w (viewIn (storedFields t) k) i ≡ true
-      → bitsOf s (viewIn (storedFields t) k .slot) i ≡ bitsOf u (viewIn (storedFields t) k .slot) i)
+      → bitsOf s (viewIn (storedFields t) k .index) i ≡ bitsOf u (viewIn (storedFields t) k .index) i)
       → answerOf t s (Read a w) ≡ answerOf t u (Read a w)

@@ -1,12 +1,12 @@
 // Runs the expressions of standard input (for each a little-endian u32 length, then the text) and writes a line for each: its value or
 // the operator that refuses it, its place and the cursor past it; or where it stops. tests/expression_cases.py makes the cases.
+use case_io::LONGEST_TEXT;
+use case_io::MOST_CASES;
+use case_io::put;
+use case_io::put_number;
 use expressions::Number;
 use expressions::NumberReading;
 use expressions::Refusal;
-use testing::LONGEST_TEXT;
-use testing::MOST_CASES;
-use testing::put;
-use testing::put_number;
 
 fn show_number(number: Number, next: usize) {
     let refusal = number.refusal;
@@ -22,7 +22,7 @@ fn show_case(case: u64, text: &[u8]) {
     put_number(b"", case);
     match expressions::read_number(text, 0) {
         NumberReading::Done(number, next) => show_number(number, next),
-        NumberReading::Stop(number, place) => {
+        NumberReading::Refused(number, place) => {
             put_number(b" stop=", number as u64);
             put_number(b" at=", place as u64);
         }
@@ -31,7 +31,7 @@ fn show_case(case: u64, text: &[u8]) {
 }
 
 fn run_case(case: u64, room: &mut [u8]) -> bool {
-    let text = testing::read_text(room);
+    let text = case_io::read_text(room);
     let length = text.length;
     if text.whole {
         show_case(case, &room[..length]);

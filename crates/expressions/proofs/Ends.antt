@@ -10,11 +10,11 @@ use Rattle.lex.specs.declared.Word.{Word}
 use Rattle.lex.specs.declared.Word.the-variants as word
 use Rattle.lex.proofs.Bounds.{token-inside}
 use Rattle.operators.specs.Operators.{rowCount}
-use Rattle.expressions.specs.Limits.{parenthesisLimit}
+use Rattle.basics.specs.Limits.{parenthesisLimit}
 use Rattle.expressions.specs.Reading.{Parsed, ok, stop, andThen, mapped}
 use Rattle.expressions.specs.Value.{evaluated}
 use Rattle.expressions.specs.Grammar.{expressionAt, numberAt}
-use Rattle.expressions.proofs.Readings.{Holds, holds-ok, holds-stop, holds-mapped}
+use Rattle.expressions.proofs.Readings.{HoldsRead, holds-ok, holds-stop, holds-mapped}
 use Rattle.expressions.proofs.Trees.{row-read}
 use Rattle.expressions.proofs.Faults.{NumberLies, tree-lies}
 
@@ -45,7 +45,7 @@ unfolding andThen
 ends-then (ends-ok {a = a} {n = n} h) f = f a n (h .0) (h .1)
 ends-then ends-stop f = ends-stop
 
-ends-holds : {A : Type 0} {low high : ℕ} {Q : A → ℕ → Type 0} {p : Parsed A} → ((a : A) (n : ℕ) → Q a n → (low ≤ n) × (n ≤ high)) → Holds Q p → Ends low high p
+ends-holds : {A : Type 0} {low high : ℕ} {Q : A → ℕ → Type 0} {p : Parsed A} → ((a : A) (n : ℕ) → Q a n → (low ≤ n) × (n ≤ high)) → HoldsRead Q p → Ends low high p
 ends-holds f (holds-ok {a = a} {n = n} q) = ends-ok (f a n q)
 ends-holds f holds-stop = ends-stop
 
@@ -65,6 +65,6 @@ module _ (t : List ℕ) (at : ℕ) where
   number-ends = ends-mapped evaluated (ends-holds (λ e n w. (w .read .past, w .read .within)) (row-read t parenthesisLimit rowCount at))
 
   -- where a number lies that is read, for the callers that put checks in order
-  pub number-holds : Holds (NumberLies t at) (numberAt t at)
+  pub number-holds : HoldsRead (NumberLies t at) (numberAt t at)
   unfolding numberAt expressionAt
   number-holds = holds-mapped evaluated (λ e n w. tree-lies t at (w .read .spelt)) (row-read t parenthesisLimit rowCount at)

@@ -15,9 +15,9 @@ use Rattle.expressions.specs.Reading.{ok}
 use Rattle.expressions.specs.Words.{partOf, isOperator, inRow, operatorIn}
 use Rattle.expressions.specs.Tree.{Expr, literal, inside, apply}
 use Rattle.expressions.specs.Grammar.{joinedFrom, rowAt, closedAt, operandWith, operandAt, expressionAt}
-use Rattle.expressions.specs.Grouping.{rowOn, Grouped, grouped-inside, grouped-apply, Nested, nested-literal, nested-inside, nested-apply, Spelt, spelt-literal, spelt-inside, spelt-apply, Expression}
-use Rattle.expressions.specs.declared.Part.{Part}
-use Rattle.expressions.specs.declared.Part.the-variants as part
+use Rattle.expressions.specs.Grouping.{rowOn, Grouped, grouped-inside, grouped-apply, Nested, nested-literal, nested-inside, nested-apply, WordsSpell, spelt-literal, spelt-inside, spelt-apply, Expression}
+use Rattle.expressions.specs.declared.ExpressionWord.{ExpressionWord}
+use Rattle.expressions.specs.declared.ExpressionWord.the-variants as part
 use Rattle.expressions.specs.declared.OperatorLookup.the-variants.{Missing}
 use Rattle.expressions.proofs.Readings.{then-ok}
 use Rattle.expressions.proofs.Trees.{Looser, part-past, row-bounds}
@@ -29,7 +29,7 @@ module _ (t : List ℕ) where
   unfolding operatorIn inRow
   looser-missing row k n h l = by (partOf (tokenAt t n .word)) refl
     where
-      by : (q : Part) → partOf (tokenAt t n .word) ≡ q → operatorIn k q ≡ Missing
+      by : (q : ExpressionWord) → partOf (tokenAt t n .word) ≡ q → operatorIn k q ≡ Missing
       by (part.Literal v) e = refl
       by part.Open e = refl
       by part.Close e = refl
@@ -74,13 +74,13 @@ module _ (t : List ℕ) where
 
     -- a tree is read in its row and in every looser one, and the loop of its row or of a looser one comes to it
     record Both (e : Expr) : Type 0 where
-      reads : (at n row : ℕ) → Spelt t at e n → Grouped e → rowOn e ≤ row → Looser t row n → rowAt (operandAt depth t) row t at ≡ ok e n
-      reaches : (at n row : ℕ) → Spelt t at e n → Grouped e → rowOn e ≤ suc row → Looser t row n → Reaches row at e n
+      reads : (at n row : ℕ) → WordsSpell t at e n → Grouped e → rowOn e ≤ row → Looser t row n → rowAt (operandAt depth t) row t at ≡ ok e n
+      reaches : (at n row : ℕ) → WordsSpell t at e n → Grouped e → rowOn e ≤ suc row → Looser t row n → Reaches row at e n
 
     at-once : (row at n : ℕ) (e : Expr) → rowAt (operandAt depth t) row t at ≡ ok e n → Reaches row at e n
     at-once row at n e q = record { first = e; next = n; count = 0; begins = q; goes = λ turns. ap (λ (k : ℕ). joinedFrom (rowAt (operandAt depth t) row t) (suc row) k t e n) (omega arith); room = omega arith }
 
-    operand-both : (e : Expr) → rowOn e ≡ 0 → ((at n : ℕ) → Spelt t at e n → Grouped e → operandAt depth t at ≡ ok e n) → Both e
+    operand-both : (e : Expr) → rowOn e ≡ 0 → ((at n : ℕ) → WordsSpell t at e n → Grouped e → operandAt depth t at ≡ ok e n) → Both e
     unfolding rowAt
     operand-both e z f = record {
       reads = λ at n row s g l h. row-lift 0 at n e (f at n s g) row (omega arith) h;
@@ -129,7 +129,7 @@ module _ (t : List ℕ) where
         ∙ joined-ends row k n e (looser-missing (suc row) (suc row) n h (omega arith))
 
     -- the loop of its own row
-    own : (o : Operator) (p : ℕ) (l r : Expr) → Both l → Both r → (at n row : ℕ) → rowOf o ≡ suc row → Spelt t at (apply o p l r) n → Grouped (apply o p l r) → Looser t row n
+    own : (o : Operator) (p : ℕ) (l r : Expr) → Both l → Both r → (at n row : ℕ) → rowOf o ≡ suc row → WordsSpell t at (apply o p l r) n → Grouped (apply o p l r) → Looser t row n
         → Reaches row at (apply o p l r) n
     own o p l r x y at n row k (spelt-apply {m = m} s e u) (grouped-apply g q a b) h =
         reaches-on row at m n o l r
@@ -140,7 +140,7 @@ module _ (t : List ℕ) where
     apply-both : (o : Operator) (p : ℕ) (l r : Expr) → Both l → Both r → Both (apply o p l r)
     apply-both o p l r x y = record { reads = reads; reaches = reaches }
       where
-        reads : (at n row : ℕ) → Spelt t at (apply o p l r) n → Grouped (apply o p l r) → rowOf o ≤ row → Looser t row n → rowAt (operandAt depth t) row t at ≡ ok (apply o p l r) n
+        reads : (at n row : ℕ) → WordsSpell t at (apply o p l r) n → Grouped (apply o p l r) → rowOf o ≤ row → Looser t row n → rowAt (operandAt depth t) row t at ≡ ok (apply o p l r) n
         reads at n row s g k h =
             let j : ℕ = rowOf o - 1 in
             let one : rowOf o ≡ suc j = omega (arith, row-bounds o) in
@@ -148,19 +148,19 @@ module _ (t : List ℕ) where
             (reaches-row j at n (apply o p l r) (own o p l r x y at n j one s g (λ c f. omega (arith, h c f))) (spelt-lies t s .within) (λ c f. omega (arith, h c f)))
             row (omega arith) h
 
-        reaches : (at n row : ℕ) → Spelt t at (apply o p l r) n → Grouped (apply o p l r) → rowOf o ≤ suc row → Looser t row n → Reaches row at (apply o p l r) n
+        reaches : (at n row : ℕ) → WordsSpell t at (apply o p l r) n → Grouped (apply o p l r) → rowOf o ≤ suc row → Looser t row n → Reaches row at (apply o p l r) n
         reaches at n row s g k h = by (leb (rowOf o) row) refl
           where
             by : (b : Bool) → leb (rowOf o) row ≡ b → Reaches row at (apply o p l r) n
             by true e = at-once row at n (apply o p l r) (reads at n row s g (leb-true (rowOf o) row e) h)
             by false e = own o p l r x y at n row (omega (arith, leb-false (rowOf o) row e)) s g h
 
-  literal-read : (depth at n v p : ℕ) → Spelt t at (literal v p) n → operandAt depth t at ≡ ok (literal v p) n
+  literal-read : (depth at n v p : ℕ) → WordsSpell t at (literal v p) n → operandAt depth t at ≡ ok (literal v p) n
   unfolding operandAt operandWith
   literal-read zero at n v p (spelt-literal e) = rw e
   literal-read (suc depth) at n v p (spelt-literal e) = rw e
 
-  inside-read : (depth at n p : ℕ) (e : Expr) → Both depth e → Spelt t at (inside p e) n → Grouped (inside p e) → operandAt (suc depth) t at ≡ ok (inside p e) n
+  inside-read : (depth at n p : ℕ) (e : Expr) → Both depth e → WordsSpell t at (inside p e) n → Grouped (inside p e) → operandAt (suc depth) t at ≡ ok (inside p e) n
   unfolding operandAt operandWith closedAt
   inside-read depth at n p e x (spelt-inside {n = m} f s h) (grouped-inside g) =
       rw f (then-ok _ (x .reads (tokenAt t at .end) m rowCount s g (binds e) (looser-close rowCount m h)) ∙ rw h)

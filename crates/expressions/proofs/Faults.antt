@@ -11,18 +11,18 @@ use Rattle.lex.specs.declared.Next.the-variants.{At, Unclosed}
 use Rattle.lex.specs.declared.Word.the-variants as word
 use Rattle.lex.proofs.Bounds.{Found, from-lies, next-found, token-within}
 use Rattle.operators.specs.declared.Operator.{Operator}
-use Rattle.operators.specs.declared.Outcome.{Outcome}
-use Rattle.operators.specs.declared.Outcome.the-variants.{Is, Out}
+use Rattle.operators.specs.declared.Computed.{Computed}
+use Rattle.operators.specs.declared.Computed.the-variants.{Is, Out}
 use Rattle.operators.specs.Operators.{resultOf}
 use Rattle.expressions.specs.Reading.{ok}
 use Rattle.expressions.specs.Words.{partOf}
 use Rattle.expressions.specs.Tree.{Expr, literal, inside, apply}
 use Rattle.expressions.specs.Value.{earlier, given, settled, joined, evaluated}
 use Rattle.expressions.specs.Grammar.{expressionAt, numberAt}
-use Rattle.expressions.specs.Grouping.{Spelt, spelt-literal, spelt-inside, spelt-apply}
+use Rattle.expressions.specs.Grouping.{WordsSpell, spelt-literal, spelt-inside, spelt-apply}
 use Rattle.expressions.specs.Faults.{Faulty, faulty-here, faulty-left, faulty-right, faulty-inside}
-use Rattle.expressions.specs.declared.Part.{Part}
-use Rattle.expressions.specs.declared.Part.the-variants as part
+use Rattle.expressions.specs.declared.ExpressionWord.{ExpressionWord}
+use Rattle.expressions.specs.declared.ExpressionWord.the-variants as part
 use Rattle.expressions.specs.declared.Refusal.{Refusal}
 use Rattle.expressions.specs.declared.Refusal.the-variants.{Nowhere, AtOperator}
 use Rattle.expressions.specs.declared.Number.{Number}
@@ -40,7 +40,7 @@ why : (o : Operator) (p : ℕ) (l r : Number) → Why o p l r (joined o p l r .r
 unfolding joined earlier given settled
 why o p l r = by (l .refusal) refl (r .refusal) refl (resultOf o (l .value) (r .value)) refl
   where
-    by : (x : Refusal) → l .refusal ≡ x → (y : Refusal) → r .refusal ≡ y → (z : Outcome) → resultOf o (l .value) (r .value) ≡ z
+    by : (x : Refusal) → l .refusal ≡ x → (y : Refusal) → r .refusal ≡ y → (z : Computed) → resultOf o (l .value) (r .value) ≡ z
         → Why o p l r (settled (earlier x y) (l .place) (given p (l .place) z) .refusal)
     by (AtOperator a) e y f z g = why-left e
     by Nowhere e (AtOperator b) f z g = why-right e f
@@ -84,7 +84,7 @@ joined-zero : (o : Operator) (p : ℕ) (l r : Number) {q : ℕ} → joined o p l
 unfolding joined settled given
 joined-zero o p l r {q} = by (earlier (l .refusal) (r .refusal)) (resultOf o (l .value) (r .value))
   where
-    by : (x : Refusal) (z : Outcome) → settled x (l .place) (given p (l .place) z) .refusal ≡ AtOperator q → settled x (l .place) (given p (l .place) z) .value ≡ 0
+    by : (x : Refusal) (z : Computed) → settled x (l .place) (given p (l .place) z) .refusal ≡ AtOperator q → settled x (l .place) (given p (l .place) z) .value ≡ 0
     by (AtOperator a) z h = refl
     by Nowhere Out h = refl
     by Nowhere (Is n) h = apart refl h
@@ -107,7 +107,7 @@ joined-place : (o : Operator) (p : ℕ) (l r : Number) → joined o p l r .place
 unfolding joined settled given
 joined-place o p l r = by (earlier (l .refusal) (r .refusal)) (resultOf o (l .value) (r .value))
   where
-    by : (x : Refusal) (z : Outcome) → settled x (l .place) (given p (l .place) z) .place ≡ l .place
+    by : (x : Refusal) (z : Computed) → settled x (l .place) (given p (l .place) z) .place ≡ l .place
     by (AtOperator a) z = refl
     by Nowhere Out = refl
     by Nowhere (Is n) = refl
@@ -118,7 +118,7 @@ module _ (t : List ℕ) where
   past-long at (Unclosed o) f n = f .1
 
   -- a word that has a part in expressions starts at the cursor or behind it, and has bytes
-  part-lies : (at : ℕ) {q : Part} → partOf (tokenAt t at .word) ≡ q → (q ≡ part.Other → ⊥) → (at ≤ tokenAt t at .start) × (tokenAt t at .start < tokenAt t at .end)
+  part-lies : (at : ℕ) {q : ExpressionWord} → partOf (tokenAt t at .word) ≡ q → (q ≡ part.Other → ⊥) → (at ≤ tokenAt t at .start) × (tokenAt t at .start < tokenAt t at .end)
   unfolding tokenAt partOf
   part-lies at e n =
       let p = part-past t at e n in
@@ -128,7 +128,7 @@ module _ (t : List ℕ) where
       ended : tokenAt t at .word ≡ word.End → partOf (tokenAt t at .word) ≡ part.Other
       ended z = rw z
 
-  pub spelt-lies : {at n : ℕ} {e : Expr} → Spelt t at e n → Lies t at e n
+  pub spelt-lies : {at n : ℕ} {e : Expr} → WordsSpell t at e n → Lies t at e n
   unfolding evaluated
   spelt-lies (spelt-literal {at = at} e) =
       let p = part-past t at e (λ z. let y : _≡_ {A = ℕ} 0 1 = cc in omega arith) in
@@ -148,7 +148,7 @@ module _ (t : List ℕ) where
       record { past = omega (arith, p .0, i .past, j .past); within = j .within; first = omega (arith, k, i .first); before = omega (arith, k, p .0, i .before, j .past) }
 
   -- an operator at fault stands behind the first byte, before the cursor past the expression
-  pub faulty-lies : {at n q : ℕ} {e : Expr} → Spelt t at e n → Faulty e q → (evaluated e .place < q) × (q < n)
+  pub faulty-lies : {at n q : ℕ} {e : Expr} → WordsSpell t at e n → Faulty e q → (evaluated e .place < q) × (q < n)
   unfolding evaluated
   faulty-lies (spelt-inside {at = at} {n = n} e s f) (faulty-inside h) =
       let l = part-lies at e (λ z. let y : _≡_ {A = ℕ} 0 1 = cc in omega arith) in
@@ -171,7 +171,7 @@ module _ (t : List ℕ) where
       (omega (arith, j, spelt-lies s .before, p .0, spelt-lies u .first, i .0), i .1)
 
   -- "of several the smallest place answers"
-  pub refused-smallest : {at n q : ℕ} {e : Expr} → Spelt t at e n → {p : ℕ} → evaluated e .refusal ≡ AtOperator p → Faulty e q → p ≤ q
+  pub refused-smallest : {at n q : ℕ} {e : Expr} → WordsSpell t at e n → {p : ℕ} → evaluated e .refusal ≡ AtOperator p → Faulty e q → p ≤ q
   unfolding evaluated
   refused-smallest (spelt-inside e s f) h (faulty-inside k) = refused-smallest s h k
   refused-smallest (spelt-apply {m = m} {o = o} {l = l} {r = r} s e u) h k =
@@ -195,7 +195,7 @@ module _ (t : List ℕ) where
       by (why-here a b c) (faulty-right k) f g h = absurd (faulty-refused k b)
 
   -- no fault is passed over: where an operator is at fault, the expression is refused at it or at one before it
-  pub faults-covered : {at n q : ℕ} {e : Expr} → Spelt t at e n → Faulty e q → (p : ℕ) × ((evaluated e .refusal ≡ AtOperator p) × (p ≤ q))
+  pub faults-covered : {at n q : ℕ} {e : Expr} → WordsSpell t at e n → Faulty e q → (p : ℕ) × ((evaluated e .refusal ≡ AtOperator p) × (p ≤ q))
   faults-covered {q = q} {e = e} s k = by (evaluated e .refusal) refl
     where
       by : (r : Refusal) → evaluated e .refusal ≡ r → (p : ℕ) × ((evaluated e .refusal ≡ AtOperator p) × (p ≤ q))
@@ -209,7 +209,7 @@ pub record NumberLies (t : List ℕ) (at : ℕ) (x : Number) (n : ℕ) : Type 0 
   pub within : n ≤ length t
   pub operator : (p : ℕ) → x .refusal ≡ AtOperator p → (x .place < p) × (p < n)
 
-pub tree-lies : (t : List ℕ) (at : ℕ) {e : Expr} {n : ℕ} → Spelt t at e n → NumberLies t at (evaluated e) n
+pub tree-lies : (t : List ℕ) (at : ℕ) {e : Expr} {n : ℕ} → WordsSpell t at e n → NumberLies t at (evaluated e) n
 tree-lies t at {e} s =
     let l = spelt-lies t s in
     record { first = l .first; before = l .before; within = l .within; operator = λ p h. faulty-lies t s (refused-faulty e h) }

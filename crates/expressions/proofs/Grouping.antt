@@ -5,36 +5,36 @@ use Prim.Native.Nat.{ℕ, _<_, _≤_}
 use native.Mathlib.Omega.{arith}
 use lib.Dec.{ltb}
 use borrow.Author.Tests.{lt-ltb, le-ltb}
-use Rattle.chars.specs.Choice.{if_then_else_}
+use Rattle.basics.specs.Choice.{if_then_else_}
 use Rattle.operators.specs.declared.Operator.{Operator}
 use Rattle.operators.specs.Operators.{rowOf}
 use Rattle.expressions.specs.Tree.{Expr, literal, inside, apply}
-use Rattle.expressions.specs.Grouping.{Step, Flat, flat, rowOn, Grouped, grouped-apply}
+use Rattle.expressions.specs.Grouping.{Application, Flat, flat, rowOn, Grouped, grouped-apply}
 
-abbrev pub on : Expr → Step → Expr
+abbrev pub on : Expr → Application → Expr
 on e s = apply (s .operator) (s .place) e (s .operand)
 
 -- one operator more behind a tree: into the right operand where it binds tighter than the operator on top, else on top
-unfoldable pub extend : Expr → Step → Expr
+unfoldable pub extend : Expr → Application → Expr
 extend (literal n p) s = on (literal n p) s
 extend (inside p e) s = on (inside p e) s
 extend (apply o p l r) s = if ltb (rowOf (s .operator)) (rowOf o) then apply o p l (extend r s) else on (apply o p l r) s
 
-unfoldable pub built : Expr → List Step → Expr
+unfoldable pub built : Expr → List Application → Expr
 built e [] = e
 built e (s ∷ ss) = built (extend e s) ss
 
-built-behind : (e : Expr) (ss us : List Step) → built e (ss ++ us) ≡ built (built e ss) us
+built-behind : (e : Expr) (ss us : List Application) → built e (ss ++ us) ≡ built (built e ss) us
 unfolding built
 built-behind e [] us = refl
 built-behind e (s ∷ ss) us = built-behind (extend e s) ss us
 
 -- each operator of the list binds tighter than the row
-data Tighter (row : ℕ) : List Step → Type 0 where
+data Tighter (row : ℕ) : List Application → Type 0 where
   none : Tighter row []
-  next : {s : Step} {ss : List Step} → rowOf (s .operator) < row → Tighter row ss → Tighter row (s ∷ ss)
+  next : {s : Application} {ss : List Application} → rowOf (s .operator) < row → Tighter row ss → Tighter row (s ∷ ss)
 
-tighter-behind : {row : ℕ} {ss us : List Step} → Tighter row ss → Tighter row us → Tighter row (ss ++ us)
+tighter-behind : {row : ℕ} {ss us : List Application} → Tighter row ss → Tighter row us → Tighter row (ss ++ us)
 tighter-behind none u = u
 tighter-behind (next h t) u = next h (tighter-behind t u)
 
@@ -46,17 +46,17 @@ grouped-tighter row (inside p e) g h = none
 grouped-tighter row (apply o p l r) (grouped-apply g k a b) h =
     tighter-behind (grouped-tighter row l g (omega arith)) (next h (grouped-tighter row r k (omega arith)))
 
-extend-top : (e : Expr) (s : Step) → rowOn e ≤ rowOf (s .operator) → extend e s ≡ on e s
+extend-top : (e : Expr) (s : Application) → rowOn e ≤ rowOf (s .operator) → extend e s ≡ on e s
 unfolding extend
 extend-top (literal n p) s h = refl
 extend-top (inside p e) s h = refl
 extend-top (apply o p l r) s h = rw (le-ltb (rowOf (s .operator)) (rowOf o) h)
 
-extend-right : (o : Operator) (p : ℕ) (l r : Expr) (s : Step) → rowOf (s .operator) < rowOf o → extend (apply o p l r) s ≡ apply o p l (extend r s)
+extend-right : (o : Operator) (p : ℕ) (l r : Expr) (s : Application) → rowOf (s .operator) < rowOf o → extend (apply o p l r) s ≡ apply o p l (extend r s)
 unfolding extend
 extend-right o p l r s h = rw (lt-ltb (rowOf (s .operator)) (rowOf o) h)
 
-built-right : (o : Operator) (p : ℕ) (l r : Expr) (ss : List Step) → Tighter (rowOf o) ss → built (apply o p l r) ss ≡ apply o p l (built r ss)
+built-right : (o : Operator) (p : ℕ) (l r : Expr) (ss : List Application) → Tighter (rowOf o) ss → built (apply o p l r) ss ≡ apply o p l (built r ss)
 unfolding built
 built-right o p l r [] none = refl
 built-right o p l r (s ∷ ss) (next h t) = ap (λ (e : Expr). built e ss) (extend-right o p l r s h) ∙ built-right o p l (extend r s) ss t
@@ -67,7 +67,7 @@ unfolding flat built
 rebuilt (literal n p) g = refl
 rebuilt (inside p e) g = refl
 rebuilt (apply o p l r) (grouped-apply g k a b) =
-    let s : Step = record { operator = o; place = p; operand = flat r .first } in
+    let s : Application = record { operator = o; place = p; operand = flat r .first } in
     built-behind (flat l .first) (flat l .steps) (s ∷ flat r .steps)
     ∙ ap (λ (e : Expr). built (extend e s) (flat r .steps)) (rebuilt l g)
     ∙ ap (λ (e : Expr). built e (flat r .steps)) (extend-top l s a)

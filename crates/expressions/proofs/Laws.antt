@@ -6,11 +6,11 @@ use Prim.Native.Nat.{ℕ, zero, suc, _-_, _<_, _≤_}
 use native.Mathlib.Omega.{arith}
 use lib.ListN.{length}
 use borrow.Author.Tests.{eq-eqb, ne-eqb}
-use Rattle.chars.specs.Choice.{if_then_else_}
+use Rattle.basics.specs.Choice.{if_then_else_}
 use Rattle.lex.specs.Token.{tokenAt}
 use Rattle.lex.specs.declared.Token.{Token}
 use Rattle.operators.specs.declared.Operator.{Operator}
-use Rattle.operators.specs.declared.Outcome.{Outcome}
+use Rattle.operators.specs.declared.Computed.{Computed}
 use Rattle.operators.specs.Operators.{rowOf, rowCount, resultOf}
 use Rattle.expressions.specs.Reading.{Parsed, ok, stop, andThen, mapped}
 use Rattle.expressions.specs.Words.{partOf, isClose, inRow, operatorIn}
@@ -18,8 +18,8 @@ use Rattle.expressions.specs.Tree.{Expr, inside, apply}
 use Rattle.expressions.specs.Value.{sound, earlier, given, settled, joined, placed, evaluated}
 use Rattle.expressions.specs.Grammar.{joinedFrom, rowAt, closedAt, operandWith, operandAt}
 use Rattle.expressions.specs.Answers.{numberRead}
-use Rattle.expressions.specs.declared.Part.{Part}
-use Rattle.expressions.specs.declared.Part.the-variants as part
+use Rattle.expressions.specs.declared.ExpressionWord.{ExpressionWord}
+use Rattle.expressions.specs.declared.ExpressionWord.the-variants as part
 use Rattle.expressions.specs.declared.OperatorLookup.{OperatorLookup}
 use Rattle.expressions.specs.declared.OperatorLookup.the-variants.{Found, Missing}
 use Rattle.expressions.specs.declared.Refusal.{Refusal}
@@ -41,13 +41,13 @@ module _ (o : Operator) (row : ℕ) {n : ℕ} (e : n ≡ rowOf o) where
   row-other f = rw (ne-eqb (rowOf o) row (λ z. f (e ∙ z)))
 
 -- an operator between two numbers
-pub join-numbers : (o : Operator) (p : ℕ) (l r : Number) {x : Outcome} {u : Refusal} {g s : Number} → x ≡ resultOf o (l .value) (r .value)
+pub join-numbers : (o : Operator) (p : ℕ) (l r : Number) {x : Computed} {u : Refusal} {g s : Number} → x ≡ resultOf o (l .value) (r .value)
     → u ≡ earlier (l .refusal) (r .refusal) → g ≡ given p (l .place) x → s ≡ settled u (l .place) g → s ≡ joined o p l r
 unfolding joined
 join-numbers o p l r e f g h = rw (← e, ← f, ← g) h
 
 -- the closing parenthesis
-module _ (t : List ℕ) (at : ℕ) {k : Token} {q : Part} {b : Bool} (e : k ≡ tokenAt t at) (f : q ≡ partOf (k .word)) (g : b ≡ isClose q) where
+module _ (t : List ℕ) (at : ℕ) {k : Token} {q : ExpressionWord} {b : Bool} (e : k ≡ tokenAt t at) (f : q ≡ partOf (k .word)) (g : b ≡ isClose q) where
   pub closed-yes : {A : Type 0} (a : A) → b ≡ true → ok a (k .end) ≡ closedAt a t at
   unfolding closedAt
   closed-yes a h = rw (← e, ← f, sym g ∙ h)
@@ -65,7 +65,7 @@ mapped-closed f a t at = by (isClose (partOf (tokenAt t at .word)))
     by false = refl
 
 -- an operand
-module _ (t : List ℕ) (at : ℕ) {k : Token} {q : Part} (e : k ≡ tokenAt t at) (f : q ≡ partOf (k .word)) where
+module _ (t : List ℕ) (at : ℕ) {k : Token} {q : ExpressionWord} (e : k ≡ tokenAt t at) (f : q ≡ partOf (k .word)) where
   pub operand-literal : (depth : ℕ) {v : ℕ} → q ≡ part.Literal v → ok (sound v (k .start)) (k .end) ≡ mapped evaluated (operandAt depth t at)
   unfolding operandAt operandWith mapped evaluated
   operand-literal zero h = rw (← e, sym f ∙ h)
@@ -101,7 +101,7 @@ module _ (t : List ℕ) (at : ℕ) {k : Token} {q : Part} (e : k ≡ tokenAt t a
         ap (λ (n : ℕ). operandAt n t at) one ∙ deeper h (depth - 1)
 
     module _ {x : NumberReading} (z : depth ≡ 0 → ⊥) (read : numberRead x ≡ mapped evaluated (rowAt (operandAt (depth - 1) t) rowCount t (k .end))) where
-      pub operand-stop : {n p : ℕ} → x ≡ reading.Stop n p → stop n p ≡ mapped evaluated (operandAt depth t at)
+      pub operand-stop : {n p : ℕ} → x ≡ reading.Refused n p → stop n p ≡ mapped evaluated (operandAt depth t at)
       unfolding mapped
       operand-stop g = rw (opened z ∙ then-stop _ (mapped-stopped evaluated _ (rw g at read)))
 
@@ -137,7 +137,7 @@ module _ (t : List ℕ) (depth row : ℕ) where
         rw one at (looser-suc at (row - 1))
 
     module _ (at : ℕ) {x : NumberReading} (read : numberRead x ≡ mapped evaluated (rowAt (operandAt depth t) (row - 1) t at)) where
-      pub row-stop : {n p : ℕ} → x ≡ reading.Stop n p → stop n p ≡ mapped evaluated (rowAt (operandAt depth t) row t at)
+      pub row-stop : {n p : ℕ} → x ≡ reading.Refused n p → stop n p ≡ mapped evaluated (rowAt (operandAt depth t) row t at)
       unfolding mapped
       row-stop g = rw (looser at ∙ then-stop _ (mapped-stopped evaluated _ (rw g at read)))
 
@@ -147,7 +147,7 @@ module _ (t : List ℕ) (depth row : ℕ) where
           let d = mapped-done evaluated (rowAt (operandAt depth t) (row - 1) t at) (rw g at read) in
           record { tree = d .0; value = d .1 .1; rest = record { turns = length t; enough = omega arith; same = sym (ap (mapped evaluated) (looser at ∙ then-ok _ (d .1 .0))) } }
 
-    module _ (at : ℕ) {left : Number} {whole : Parsed Number} {k : Token} {q : Part} {l : OperatorLookup}
+    module _ (at : ℕ) {left : Number} {whole : Parsed Number} {k : Token} {q : ExpressionWord} {l : OperatorLookup}
         (r : Joining (rowAt (operandAt depth t) (row - 1) t) row t at left whole) (e : k ≡ tokenAt t at) (f : q ≡ partOf (k .word)) (g : l ≡ operatorIn row q) where
       pub join-done : l ≡ Missing → ok left at ≡ whole
       unfolding joinedFrom mapped
@@ -162,7 +162,7 @@ module _ (t : List ℕ) (depth row : ℕ) where
       turn h n = rw (← e, ← f, sym g ∙ h)
 
       module _ {o : Operator} {x : NumberReading} (h : l ≡ Found o) (read : numberRead x ≡ mapped evaluated (rowAt (operandAt depth t) (row - 1) t (k .end))) where
-        pub join-stop : {n p : ℕ} → x ≡ reading.Stop n p → stop n p ≡ whole
+        pub join-stop : {n p : ℕ} → x ≡ reading.Refused n p → stop n p ≡ whole
         unfolding mapped
         join-stop {n} {p} i =
             let s : mapped evaluated (joinedFrom (rowAt (operandAt depth t) (row - 1) t) row (suc (r .rest .turns)) t (r .tree) at) ≡ stop n p =

@@ -8,19 +8,19 @@ use Rattle.lex.specs.Token.{tokenAt}
 use Rattle.lex.specs.declared.Token.{Token}
 use Rattle.lex.specs.declared.Word.the-variants as word
 use Rattle.operators.specs.Operators.{rowCount}
-use Rattle.expressions.specs.Limits.{parenthesisLimit}
+use Rattle.basics.specs.Limits.{parenthesisLimit}
 use Rattle.expressions.specs.Reading.{Parsed, ok, stop, mapped}
 use Rattle.expressions.specs.Words.{partOf, operatorIn, isOperator}
 use Rattle.expressions.specs.Tree.{Expr, literal}
 use Rattle.expressions.specs.Value.{sound, evaluated}
 use Rattle.expressions.specs.Grammar.{joinedFrom, rowAt, operandWith, operandAt, expressionAt, numberAt, plainOf, plainAt}
-use Rattle.expressions.specs.declared.Part.{Part}
-use Rattle.expressions.specs.declared.Part.the-variants as part
+use Rattle.expressions.specs.declared.ExpressionWord.{ExpressionWord}
+use Rattle.expressions.specs.declared.ExpressionWord.the-variants as part
 use Rattle.expressions.specs.declared.OperatorLookup.the-variants.{Missing}
 use Rattle.expressions.specs.declared.Number.{Number}
 use Rattle.expressions.proofs.Readings.{then-ok, then-stop}
 
-pub no-operator : (q : Part) (row : ℕ) → isOperator q ≡ false → operatorIn row q ≡ Missing
+pub no-operator : (q : ExpressionWord) (row : ℕ) → isOperator q ≡ false → operatorIn row q ≡ Missing
 unfolding operatorIn
 no-operator (part.Literal n) row e = refl
 no-operator part.Open row e = refl
@@ -54,7 +54,7 @@ module _ (t : List ℕ) (at : ℕ) where
   unfolding plainAt operandAt operandWith
   number-kept n h = by (partOf (tokenAt t at .word)) refl
     where
-      by : (q : Part) → partOf (tokenAt t at .word) ≡ q → numberAt t at ≡ plainOf (tokenAt t at) q
+      by : (q : ExpressionWord) → partOf (tokenAt t at .word) ≡ q → numberAt t at ≡ plainOf (tokenAt t at) q
       by (part.Literal v) e = number-plain e h
       by part.Open e = absurd (n e)
       by part.Close e = number-stopped (rw e)
@@ -63,7 +63,7 @@ module _ (t : List ℕ) (at : ℕ) where
 
 -- the ways of the code
 module _ (t : List ℕ) (at : ℕ) where
-  pub plain-read : {k b : Token} {v : ℕ} {q : Part} {o : Bool} → k ≡ tokenAt t at → k .word ≡ word.Number v → b ≡ tokenAt t (k .end) → q ≡ partOf (b .word)
+  pub plain-read : {k b : Token} {v : ℕ} {q : ExpressionWord} {o : Bool} → k ≡ tokenAt t at → k .word ≡ word.Number v → b ≡ tokenAt t (k .end) → q ≡ partOf (b .word)
       → o ≡ isOperator q → o ≡ false → ok (sound v (k .start)) (k .end) ≡ numberAt t at
   unfolding partOf
   plain-read {k} {b} {v} e w f g h i =

@@ -27,28 +27,28 @@ module _ {A B : Type 0} (f : A → B) where
   mapped-stopped (stop m r) e = cc
 
 -- what holds of what was read and the cursor past it, unless it was refused
-pub data Holds {A : Type 0} (Q : A → ℕ → Type 0) : Parsed A → Type 0 where
-  holds-ok : {a : A} {n : ℕ} → Q a n → Holds Q (ok a n)
-  holds-stop : {n p : ℕ} → Holds Q (stop n p)
+pub data HoldsRead {A : Type 0} (Q : A → ℕ → Type 0) : Parsed A → Type 0 where
+  holds-ok : {a : A} {n : ℕ} → Q a n → HoldsRead Q (ok a n)
+  holds-stop : {n p : ℕ} → HoldsRead Q (stop n p)
 
-holds-here : {A : Type 0} {Q : A → ℕ → Type 0} {a : A} {n : ℕ} → Holds Q (ok a n) → Q a n
+holds-here : {A : Type 0} {Q : A → ℕ → Type 0} {a : A} {n : ℕ} → HoldsRead Q (ok a n) → Q a n
 holds-here (holds-ok q) = q
 
-pub holds-of : {A : Type 0} {Q : A → ℕ → Type 0} {p : Parsed A} {a : A} {n : ℕ} → Holds Q p → p ≡ ok a n → Q a n
+pub holds-of : {A : Type 0} {Q : A → ℕ → Type 0} {p : Parsed A} {a : A} {n : ℕ} → HoldsRead Q p → p ≡ ok a n → Q a n
 holds-of {Q = Q} h e = holds-here {Q = Q} (rw e at h)
 
-pub holds-more : {A : Type 0} {Q R : A → ℕ → Type 0} {p : Parsed A} → ((a : A) (n : ℕ) → Q a n → R a n) → Holds Q p → Holds R p
+pub holds-more : {A : Type 0} {Q R : A → ℕ → Type 0} {p : Parsed A} → ((a : A) (n : ℕ) → Q a n → R a n) → HoldsRead Q p → HoldsRead R p
 holds-more f (holds-ok {a = a} {n = n} q) = holds-ok (f a n q)
 holds-more f holds-stop = holds-stop
 
-pub holds-mapped : {A B : Type 0} {Q : A → ℕ → Type 0} {R : B → ℕ → Type 0} (g : A → B) {p : Parsed A} → ((a : A) (n : ℕ) → Q a n → R (g a) n) → Holds Q p
-    → Holds R (mapped g p)
+pub holds-mapped : {A B : Type 0} {Q : A → ℕ → Type 0} {R : B → ℕ → Type 0} (g : A → B) {p : Parsed A} → ((a : A) (n : ℕ) → Q a n → R (g a) n) → HoldsRead Q p
+    → HoldsRead R (mapped g p)
 unfolding mapped
 holds-mapped g f (holds-ok {a = a} {n = n} q) = holds-ok (f a n q)
 holds-mapped g f holds-stop = holds-stop
 
-pub holds-then : {A B : Type 0} {Q : A → ℕ → Type 0} {R : B → ℕ → Type 0} {p : Parsed A} {k : A → ℕ → Parsed B} → Holds Q p
-    → ((a : A) (n : ℕ) → Q a n → Holds R (k a n)) → Holds R (andThen p k)
+pub holds-then : {A B : Type 0} {Q : A → ℕ → Type 0} {R : B → ℕ → Type 0} {p : Parsed A} {k : A → ℕ → Parsed B} → HoldsRead Q p
+    → ((a : A) (n : ℕ) → Q a n → HoldsRead R (k a n)) → HoldsRead R (andThen p k)
 unfolding andThen
 holds-then (holds-ok {a = a} {n = n} q) f = f a n q
 holds-then holds-stop f = holds-stop

@@ -7,7 +7,7 @@ use native.Mathlib.Omega.{arith}
 use lib.Dec.{eqb}
 use lib.ListN.{length}
 use borrow.Author.Tests.{eqb-true, eq-eqb}
-use Rattle.chars.specs.Choice.{if_then_else_}
+use Rattle.basics.specs.Choice.{if_then_else_}
 use Rattle.chars.proofs.Laws.{either}
 use Rattle.lex.specs.Token.{tokenAt}
 use Rattle.lex.specs.declared.Word.the-variants as word
@@ -15,20 +15,20 @@ use Rattle.lex.proofs.Bounds.{token-inside}
 use Rattle.operators.specs.declared.Operator.{Operator}
 use Rattle.operators.specs.declared.Operator.the-variants as operator
 use Rattle.operators.specs.Operators.{rowOf, rowCount}
-use Rattle.expressions.specs.Limits.{parenthesisLimit}
+use Rattle.basics.specs.Limits.{parenthesisLimit}
 use Rattle.expressions.specs.Reading.{Parsed, ok, stop, andThen}
 use Rattle.expressions.specs.Words.{partOf, isClose, isOperator, inRow, operatorIn}
 use Rattle.expressions.specs.Tree.{Expr, inside, apply}
 use Rattle.expressions.specs.Grammar.{byLookup, joinedFrom, rowAt, closedAt, operandOf, operandWith, operandAt, expressionAt}
-use Rattle.expressions.specs.Grouping.{rowOn, Grouped, grouped-literal, grouped-inside, grouped-apply, Nested, nested-literal, nested-inside, nested-apply, Spelt, spelt-literal, spelt-inside, spelt-apply, Expression}
-use Rattle.expressions.specs.declared.Part.{Part}
-use Rattle.expressions.specs.declared.Part.the-variants as part
+use Rattle.expressions.specs.Grouping.{rowOn, Grouped, grouped-literal, grouped-inside, grouped-apply, Nested, nested-literal, nested-inside, nested-apply, WordsSpell, spelt-literal, spelt-inside, spelt-apply, Expression}
+use Rattle.expressions.specs.declared.ExpressionWord.{ExpressionWord}
+use Rattle.expressions.specs.declared.ExpressionWord.the-variants as part
 use Rattle.expressions.specs.declared.OperatorLookup.{OperatorLookup}
 use Rattle.expressions.specs.declared.OperatorLookup.the-variants.{Found, Missing}
-use Rattle.expressions.proofs.Readings.{Holds, holds-ok, holds-stop, holds-of, holds-more, holds-then}
+use Rattle.expressions.proofs.Readings.{HoldsRead, holds-ok, holds-stop, holds-of, holds-more, holds-then}
 
 -- an operator that is found has that row
-pub operator-found : (row : ℕ) (q : Part) {o : Operator} → operatorIn row q ≡ Found o → (q ≡ part.Binary o) × (rowOf o ≡ row)
+pub operator-found : (row : ℕ) (q : ExpressionWord) {o : Operator} → operatorIn row q ≡ Found o → (q ≡ part.Binary o) × (rowOf o ≡ row)
 unfolding operatorIn inRow
 operator-found row (part.Literal n) e = absurd (let z : _≡_ {A = ℕ} 0 1 = cc in omega arith)
 operator-found row part.Open e = absurd (let z : _≡_ {A = ℕ} 0 1 = cc in omega arith)
@@ -74,7 +74,7 @@ row-some o = row-bounds o .0
 row-last : (o : Operator) → rowOf o ≤ rowCount
 row-last o = row-bounds o .1
 
-close-found : (q : Part) → isClose q ≡ true → q ≡ part.Close
+close-found : (q : ExpressionWord) → isClose q ≡ true → q ≡ part.Close
 close-found (part.Literal n) e = absurd (let z : _≡_ {A = ℕ} 0 1 = cc in omega arith)
 close-found part.Open e = absurd (let z : _≡_ {A = ℕ} 0 1 = cc in omega arith)
 close-found part.Close e = refl
@@ -83,7 +83,7 @@ close-found part.Other e = absurd (let z : _≡_ {A = ℕ} 0 1 = cc in omega ari
 
 module _ (t : List ℕ) where
   -- a word that has a part in expressions moves the cursor on, within the text
-  pub part-past : (at : ℕ) {q : Part} → partOf (tokenAt t at .word) ≡ q → (q ≡ part.Other → ⊥) → (at < tokenAt t at .end) × (tokenAt t at .end ≤ length t)
+  pub part-past : (at : ℕ) {q : ExpressionWord} → partOf (tokenAt t at .word) ≡ q → (q ≡ part.Other → ⊥) → (at < tokenAt t at .end) × (tokenAt t at .end ≤ length t)
   unfolding partOf
   part-past at e n = token-inside t at (λ z. n (sym e ∙ ended z))
     where
@@ -100,7 +100,7 @@ module _ (t : List ℕ) where
     pub grouped : Grouped e
     pub binds : rowOn e ≤ row
     pub nested : Nested depth e
-    pub spelt : Spelt t at e n
+    pub spelt : WordsSpell t at e n
 
   -- and what stands behind it is no operator of the row or of a tighter one
   pub record Whole (depth row at : ℕ) (e : Expr) (n : ℕ) : Type 0 where
@@ -116,16 +116,16 @@ module _ (t : List ℕ) where
 
   module _ (depth : ℕ) where
     -- behind a tree of the row, operators of the row with operands of the tighter rows
-    joined-read : (d : ℕ → Parsed Expr) (row : ℕ) → ((at : ℕ) → Holds (Whole depth row at) (d at)) → (turns : ℕ) (left : Expr) (from at : ℕ)
-        → Read depth (suc row) from left at → Looser row at → Holds (Whole depth (suc row) from) (joinedFrom d (suc row) turns t left at)
+    joined-read : (d : ℕ → Parsed Expr) (row : ℕ) → ((at : ℕ) → HoldsRead (Whole depth row at) (d at)) → (turns : ℕ) (left : Expr) (from at : ℕ)
+        → Read depth (suc row) from left at → Looser row at → HoldsRead (Whole depth (suc row) from) (joinedFrom d (suc row) turns t left at)
     unfolding joinedFrom
     joined-read d row reads zero left from at r h = holds-stop
     joined-read d row reads (suc turns) left from at r h =
         by (λ tree n q h. joined-read d row reads turns tree from n q h) (operatorIn (suc row) (partOf (tokenAt t at .word))) refl
       where
-        by : ((tree : Expr) (n : ℕ) → Read depth (suc row) from tree n → Looser row n → Holds (Whole depth (suc row) from) (joinedFrom d (suc row) turns t tree n))
+        by : ((tree : Expr) (n : ℕ) → Read depth (suc row) from tree n → Looser row n → HoldsRead (Whole depth (suc row) from) (joinedFrom d (suc row) turns t tree n))
             → (x : OperatorLookup) → operatorIn (suc row) (partOf (tokenAt t at .word)) ≡ x
-            → Holds (Whole depth (suc row) from) (byLookup x (ok left at) (λ o. andThen (d (tokenAt t at .end)) (λ right next. joinedFrom d (suc row) turns t (apply o (tokenAt t at .start) left right) next)))
+            → HoldsRead (Whole depth (suc row) from) (byLookup x (ok left at) (λ o. andThen (d (tokenAt t at .end)) (λ right next. joinedFrom d (suc row) turns t (apply o (tokenAt t at .start) left right) next)))
         by more Missing e = holds-ok (record { read = r; looser = looser-row row at h e })
         by more (Found o) e =
             let f = operator-found (suc row) (partOf (tokenAt t at .word)) e in
@@ -141,7 +141,7 @@ module _ (t : List ℕ) where
               spelt = spelt-apply (r .spelt) (f .0) (q .spelt);
             }) (w .looser))
 
-    rows-read : (d : ℕ → Parsed Expr) → ((at : ℕ) → Holds (Read depth 0 at) (d at)) → (row at : ℕ) → Holds (Whole depth row at) (rowAt d row t at)
+    rows-read : (d : ℕ → Parsed Expr) → ((at : ℕ) → HoldsRead (Read depth 0 at) (d at)) → (row at : ℕ) → HoldsRead (Whole depth row at) (rowAt d row t at)
     unfolding rowAt
     rows-read d reads zero at = holds-more (λ e n r. record { read = r; looser = λ o _. row-some o }) (reads at)
     rows-read d reads (suc row) at =
@@ -151,10 +151,10 @@ module _ (t : List ℕ) where
         (record { past = r .past; within = r .within; grouped = r .grouped; binds = omega (arith, r .binds); nested = r .nested; spelt = r .spelt }) (w .looser))
 
   close-read : (depth at : ℕ) → partOf (tokenAt t at .word) ≡ part.Open → (x : Expr) (n : ℕ) → Read depth rowCount (tokenAt t at .end) x n
-      → Holds (Read (suc depth) 0 at) (closedAt (inside (tokenAt t at .start) x) t n)
+      → HoldsRead (Read (suc depth) 0 at) (closedAt (inside (tokenAt t at .start) x) t n)
   unfolding closedAt
   close-read depth at e x n r =
-      either (Holds (Read (suc depth) 0 at)) (isClose (partOf (tokenAt t n .word)))
+      either (HoldsRead (Read (suc depth) 0 at)) (isClose (partOf (tokenAt t n .word)))
       (λ y.
       let z = close-found (partOf (tokenAt t n .word)) y in
       let p = part-past at e (λ z. let y : _≡_ {A = ℕ} 0 1 = cc in omega arith) in
@@ -170,12 +170,12 @@ module _ (t : List ℕ) where
       (λ _. holds-stop)
 
   with-read : (depth : ℕ) (f : ℕ → ℕ → Parsed Expr) → ((at : ℕ) → partOf (tokenAt t at .word) ≡ part.Open
-      → Holds (Read depth 0 at) (andThen (f (tokenAt t at .start) (tokenAt t at .end)) (λ e next. closedAt (inside (tokenAt t at .start) e) t next)))
-      → (at : ℕ) → Holds (Read depth 0 at) (operandWith f t at)
+      → HoldsRead (Read depth 0 at) (andThen (f (tokenAt t at .start) (tokenAt t at .end)) (λ e next. closedAt (inside (tokenAt t at .start) e) t next)))
+      → (at : ℕ) → HoldsRead (Read depth 0 at) (operandWith f t at)
   unfolding operandWith
   with-read depth f reads at = by (partOf (tokenAt t at .word)) refl
     where
-      by : (q : Part) → partOf (tokenAt t at .word) ≡ q → Holds (Read depth 0 at) (operandOf f t (tokenAt t at) q)
+      by : (q : ExpressionWord) → partOf (tokenAt t at .word) ≡ q → HoldsRead (Read depth 0 at) (operandOf f t (tokenAt t at) q)
       by (part.Literal v) e =
           let p = part-past at e (λ z. let y : _≡_ {A = ℕ} 0 1 = cc in omega arith) in
           holds-ok (record {
@@ -191,20 +191,20 @@ module _ (t : List ℕ) where
       by (part.Binary o) e = holds-stop
       by part.Other e = holds-stop
 
-  pub operand-read : (depth at : ℕ) → Holds (Read depth 0 at) (operandAt depth t at)
+  pub operand-read : (depth at : ℕ) → HoldsRead (Read depth 0 at) (operandAt depth t at)
   unfolding operandAt andThen
   operand-read zero at = with-read zero (λ p next. stop 18 p) (λ at e. holds-stop) at
   operand-read (suc depth) at =
       with-read (suc depth) (λ p next. rowAt (operandAt depth t) rowCount t next)
       (λ at e. holds-then (rows-read depth (operandAt depth t) (operand-read depth) rowCount (tokenAt t at .end)) (λ x n w. close-read depth at e x n (w .read))) at
 
-  pub row-read : (depth row at : ℕ) → Holds (Whole depth row at) (rowAt (operandAt depth t) row t at)
+  pub row-read : (depth row at : ℕ) → HoldsRead (Whole depth row at) (rowAt (operandAt depth t) row t at)
   row-read depth row at = rows-read depth (operandAt depth t) (operand-read depth) row at
 
   looser-none : (n : ℕ) → Looser rowCount n → isOperator (partOf (tokenAt t n .word)) ≡ false
   looser-none n h = by (partOf (tokenAt t n .word)) refl
     where
-      by : (q : Part) → partOf (tokenAt t n .word) ≡ q → isOperator q ≡ false
+      by : (q : ExpressionWord) → partOf (tokenAt t n .word) ≡ q → isOperator q ≡ false
       by (part.Literal v) e = refl
       by part.Open e = refl
       by part.Close e = refl
@@ -221,5 +221,5 @@ expression-sound t at {e} {n} q =
 pub read-grouped : (t : List ℕ) (at : ℕ) {e : Expr} {n : ℕ} → expressionAt t at ≡ ok e n → Grouped e
 read-grouped t at q = expression-sound t at q .grouped
 
-pub read-spelt : (t : List ℕ) (at : ℕ) {e : Expr} {n : ℕ} → expressionAt t at ≡ ok e n → Spelt t at e n
+pub read-spelt : (t : List ℕ) (at : ℕ) {e : Expr} {n : ℕ} → expressionAt t at ≡ ok e n → WordsSpell t at e n
 read-spelt t at q = expression-sound t at q .spelt

@@ -6,4 +6,4 @@ use Rattle.expressions.specs.declared.NumberReading.the-variants as numb
 
 abbrev pub numberRead : NumberReading → Parsed Number
 numberRead (number.Done x next) = ok x next
-numberRead (number.Stop n place) = stop n place
+numberRead (number.Refused n place) = stop n place

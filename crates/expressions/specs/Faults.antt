@@ -2,7 +2,7 @@
 use mathlib.Core.Path.{_≡_}
 use Prim.Native.Nat.{ℕ}
 use Rattle.operators.specs.declared.Operator.{Operator}
-use Rattle.operators.specs.declared.Outcome.the-variants.{Out}
+use Rattle.operators.specs.declared.Computed.the-variants.{Out}
 use Rattle.operators.specs.Operators.{resultOf}
 use Rattle.expressions.specs.Tree.{Expr, inside, apply}
 use Rattle.expressions.specs.Value.{evaluated}

@@ -3,18 +3,18 @@
 use mathlib.Core.List.{List}
 use Prim.Native.Nat.{ℕ, zero, suc}
 use lib.ListN.{length}
-use Rattle.chars.specs.Choice.{if_then_else_}
+use Rattle.basics.specs.Choice.{if_then_else_}
 use Rattle.lex.specs.Token.{tokenAt}
 use Rattle.lex.specs.declared.Token.{Token}
 use Rattle.operators.specs.declared.Operator.{Operator}
 use Rattle.operators.specs.Operators.{rowCount}
-use Rattle.expressions.specs.Limits.{parenthesisLimit}
+use Rattle.basics.specs.Limits.{parenthesisLimit}
 use Rattle.expressions.specs.Reading.{Parsed, ok, stop, andThen, mapped, unexpected}
 use Rattle.expressions.specs.Words.{partOf, isClose, operatorIn}
 use Rattle.expressions.specs.Tree.{Expr, literal, inside, apply}
 use Rattle.expressions.specs.Value.{sound, evaluated}
-use Rattle.expressions.specs.declared.Part.{Part}
-use Rattle.expressions.specs.declared.Part.the-variants as part
+use Rattle.expressions.specs.declared.ExpressionWord.{ExpressionWord}
+use Rattle.expressions.specs.declared.ExpressionWord.the-variants as part
 use Rattle.expressions.specs.declared.OperatorLookup.{OperatorLookup}
 use Rattle.expressions.specs.declared.OperatorLookup.the-variants.{Found, Missing}
 use Rattle.expressions.specs.declared.Number.{Number}
@@ -44,7 +44,7 @@ unfoldable pub closedAt : {A : Type 0} → A → List ℕ → ℕ → Parsed A
 closedAt a text at = let k = tokenAt text at in if isClose (partOf (k .word)) then ok a (k .end) else unexpected k
 
 -- a number, or an expression in parentheses, with a reader of what stands behind an opening one
-abbrev pub operandOf : (ℕ → ℕ → Parsed Expr) → List ℕ → Token → Part → Parsed Expr
+abbrev pub operandOf : (ℕ → ℕ → Parsed Expr) → List ℕ → Token → ExpressionWord → Parsed Expr
 operandOf insideFrom text k (part.Literal n) = ok (literal n (k .start)) (k .end)
 operandOf insideFrom text k part.Open = andThen (insideFrom (k .start) (k .end)) (λ e next. closedAt (inside (k .start) e) text next)
 operandOf insideFrom text k part.Close = unexpected k
@@ -68,7 +68,7 @@ unfoldable pub numberAt : List ℕ → ℕ → Parsed Number
 numberAt text at = mapped evaluated (expressionAt text at)
 
 -- what document 01 reads where a number may stand: a number alone
-abbrev pub plainOf : Token → Part → Parsed Number
+abbrev pub plainOf : Token → ExpressionWord → Parsed Number
 plainOf k (part.Literal n) = ok (sound n (k .start)) (k .end)
 plainOf k part.Open = unexpected k
 plainOf k part.Close = unexpected k

@@ -6,13 +6,13 @@ use Prim.Native.Nat.{ℕ, suc, _<_, _≤_}
 use Rattle.lex.specs.Token.{tokenAt}
 use Rattle.operators.specs.declared.Operator.{Operator}
 use Rattle.operators.specs.Operators.{rowOf}
-use Rattle.expressions.specs.Limits.{parenthesisLimit}
+use Rattle.basics.specs.Limits.{parenthesisLimit}
 use Rattle.expressions.specs.Words.{partOf, isOperator}
 use Rattle.expressions.specs.Tree.{Expr, literal, inside, apply}
-use Rattle.expressions.specs.declared.Part.the-variants as part
+use Rattle.expressions.specs.declared.ExpressionWord.the-variants as part
 
 -- an operator with its place and the operand behind it
-pub record Step : Type 0 where
+pub record Application : Type 0 where
   pub operator : Operator
   pub place : ℕ
   pub operand : Expr
@@ -20,7 +20,7 @@ pub record Step : Type 0 where
 -- the first operand and the list of operators, in the order of the text; what stands in parentheses is one operand
 pub record Flat : Type 0 where
   pub first : Expr
-  pub steps : List Step
+  pub steps : List Application
 
 abbrev pub behind : Flat → Operator → ℕ → Flat → Flat
 behind l o p r = record { first = l .first; steps = l .steps ++ (record { operator = o; place = p; operand = r .first } ∷ r .steps) }
@@ -55,16 +55,16 @@ pub data Nested : ℕ → Expr → Type 0 where
   nested-apply : {d p : ℕ} {o : Operator} {l r : Expr} → Nested d l → Nested d r → Nested d (apply o p l r)
 
 -- a tree is spelt by the words from a cursor to another
-pub data Spelt (t : List ℕ) : ℕ → Expr → ℕ → Type 0 where
-  spelt-literal : {at v : ℕ} → partOf (tokenAt t at .word) ≡ part.Literal v → Spelt t at (literal v (tokenAt t at .start)) (tokenAt t at .end)
-  spelt-inside : {at n : ℕ} {e : Expr} → partOf (tokenAt t at .word) ≡ part.Open → Spelt t (tokenAt t at .end) e n → partOf (tokenAt t n .word) ≡ part.Close
-      → Spelt t at (inside (tokenAt t at .start) e) (tokenAt t n .end)
-  spelt-apply : {at m n : ℕ} {o : Operator} {l r : Expr} → Spelt t at l m → partOf (tokenAt t m .word) ≡ part.Binary o → Spelt t (tokenAt t m .end) r n
-      → Spelt t at (apply o (tokenAt t m .start) l r) n
+pub data WordsSpell (t : List ℕ) : ℕ → Expr → ℕ → Type 0 where
+  spelt-literal : {at v : ℕ} → partOf (tokenAt t at .word) ≡ part.Literal v → WordsSpell t at (literal v (tokenAt t at .start)) (tokenAt t at .end)
+  spelt-inside : {at n : ℕ} {e : Expr} → partOf (tokenAt t at .word) ≡ part.Open → WordsSpell t (tokenAt t at .end) e n → partOf (tokenAt t n .word) ≡ part.Close
+      → WordsSpell t at (inside (tokenAt t at .start) e) (tokenAt t n .end)
+  spelt-apply : {at m n : ℕ} {o : Operator} {l r : Expr} → WordsSpell t at l m → partOf (tokenAt t m .word) ≡ part.Binary o → WordsSpell t (tokenAt t m .end) r n
+      → WordsSpell t at (apply o (tokenAt t m .start) l r) n
 
 -- "a constant expression": the words from a cursor to another spell the tree, it is grouped, not too deep, and no operator follows
 pub record Expression (t : List ℕ) (at : ℕ) (e : Expr) (n : ℕ) : Type 0 where
-  pub spelt : Spelt t at e n
+  pub spelt : WordsSpell t at e n
   pub grouped : Grouped e
   pub nested : Nested parenthesisLimit e
   pub ends : isOperator (partOf (tokenAt t n .word)) ≡ false

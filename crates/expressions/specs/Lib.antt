@@ -1,4 +1,3 @@
-pub mod Limits
 pub mod Reading
 pub mod Words
 pub mod Tree

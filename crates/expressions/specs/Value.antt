@@ -1,8 +1,8 @@
 -- The value of an expression, or which operator refuses it.
 use Prim.Native.Nat.{ℕ}
 use Rattle.operators.specs.declared.Operator.{Operator}
-use Rattle.operators.specs.declared.Outcome.{Outcome}
-use Rattle.operators.specs.declared.Outcome.the-variants.{Is, Out}
+use Rattle.operators.specs.declared.Computed.{Computed}
+use Rattle.operators.specs.declared.Computed.the-variants.{Is, Out}
 use Rattle.operators.specs.Operators.{resultOf}
 use Rattle.expressions.specs.declared.Refusal.{Refusal}
 use Rattle.expressions.specs.declared.Refusal.the-variants.{Nowhere, AtOperator}
@@ -22,7 +22,7 @@ earlier Nowhere r = r
 earlier (AtOperator p) r = AtOperator p
 
 -- what an operator at the place `p` gives, in an expression that begins at `place`
-unfoldable pub given : ℕ → ℕ → Outcome → Number
+unfoldable pub given : ℕ → ℕ → Computed → Number
 given p place (Is n) = sound n place
 given p place Out = refusedAt p place
 

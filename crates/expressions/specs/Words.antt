@@ -2,7 +2,7 @@
 use mathlib.Core.Bool.{Bool, true, false}
 use Prim.Native.Nat.{ℕ}
 use lib.Dec.{eqb}
-use Rattle.chars.specs.Choice.{if_then_else_}
+use Rattle.basics.specs.Choice.{if_then_else_}
 use Rattle.vocabulary.specs.declared.Mark.{Mark}
 use Rattle.vocabulary.specs.declared.Mark.the-variants as mark
 use Rattle.lex.specs.declared.Word.{Word}
@@ -10,13 +10,13 @@ use Rattle.lex.specs.declared.Word.the-variants as word
 use Rattle.operators.specs.declared.Operator.{Operator}
 use Rattle.operators.specs.declared.Operator.the-variants as operator
 use Rattle.operators.specs.Operators.{rowOf}
-use Rattle.expressions.specs.declared.Part.{Part}
-use Rattle.expressions.specs.declared.Part.the-variants as part
+use Rattle.expressions.specs.declared.ExpressionWord.{ExpressionWord}
+use Rattle.expressions.specs.declared.ExpressionWord.the-variants as part
 use Rattle.expressions.specs.declared.OperatorLookup.{OperatorLookup}
 use Rattle.expressions.specs.declared.OperatorLookup.the-variants.{Found, Missing}
 
 -- the marks of expressions: "parentheses, `* / % + - << >> & ^ |` and the comparisons"
-abbrev pub markPart : Mark → Part
+abbrev pub markPart : Mark → ExpressionWord
 markPart mark.OpenBrace = part.Other
 markPart mark.CloseBrace = part.Other
 markPart mark.OpenBracket = part.Other
@@ -48,7 +48,7 @@ markPart mark.Caret = part.Binary operator.Xor
 markPart mark.Bar = part.Binary operator.Or
 
 -- a number, a mark of expressions, or any other word
-unfoldable pub partOf : Word → Part
+unfoldable pub partOf : Word → ExpressionWord
 partOf word.End = part.Other
 partOf word.Name = part.Other
 partOf (word.Keyword k) = part.Other
@@ -58,7 +58,7 @@ partOf (word.Mark m) = markPart m
 partOf (word.Bad c) = part.Other
 
 -- a closing parenthesis
-abbrev pub isClose : Part → Bool
+abbrev pub isClose : ExpressionWord → Bool
 isClose (part.Literal n) = false
 isClose part.Open = false
 isClose part.Close = true
@@ -69,7 +69,7 @@ isClose part.Other = false
 unfoldable pub inRow : ℕ → Operator → OperatorLookup
 inRow row o = if eqb (rowOf o) row then Found o else Missing
 
-unfoldable pub operatorIn : ℕ → Part → OperatorLookup
+unfoldable pub operatorIn : ℕ → ExpressionWord → OperatorLookup
 operatorIn row (part.Literal n) = Missing
 operatorIn row part.Open = Missing
 operatorIn row part.Close = Missing
@@ -77,7 +77,7 @@ operatorIn row (part.Binary o) = inRow row o
 operatorIn row part.Other = Missing
 
 -- any operator
-abbrev pub isOperator : Part → Bool
+abbrev pub isOperator : ExpressionWord → Bool
 isOperator (part.Literal n) = false
 isOperator part.Open = false
 isOperator part.Close = false

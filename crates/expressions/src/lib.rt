@@ -1,7 +1,7 @@
 // Constant expressions: wherever a number may stand, a sum of numbers may. The readers keep no tree; the grammar's definitions give it.
 use lex::Word;
+use operators::Computed;
 use operators::Operator;
-use operators::Outcome;
 use vocabulary::Mark;
 ghost use mathlib.Core.Path.{_≡_};
 ghost use Rattle.expressions.specs.Reading.{mapped};
@@ -10,12 +10,10 @@ ghost use Rattle.expressions.specs.Value.{given, earlier, settled, joine
 ghost use Rattle.expressions.specs.Grammar.{closedAt, operandAt, rowAt, numberAt};
 ghost use Rattle.expressions.specs.Answers.{numberRead};
 
-const PARENTHESIS_LIMIT: usize = 16;
-
 const ROW_COUNT: usize = 8;
 
 // What a word may be in an expression.
-pub enum Part {
+pub enum ExpressionWord {
     Literal(u64),
     Open,
     Close,
@@ -43,57 +41,57 @@ pub struct Number {
 
 pub enum NumberReading {
     Done(Number, usize),
-    Stop(u8, usize),
+    Refused(u8, usize),
 }
 
-fn mark_part(mark: Mark) -> Part
+fn mark_part(mark: Mark) -> ExpressionWord
     ensures { λ r. ⌜ r ≡ markPart mark ⌝ }
 {
     match mark {
-        Mark::OpenBrace => Part::Other,
-        Mark::CloseBrace => Part::Other,
-        Mark::OpenBracket => Part::Other,
-        Mark::CloseBracket => Part::Other,
-        Mark::Semicolon => Part::Other,
-        Mark::Colon => Part::Other,
-        Mark::Comma => Part::Other,
-        Mark::Equals => Part::Other,
-        Mark::At => Part::Other,
-        Mark::PlusEquals => Part::Other,
-        Mark::PercentEquals => Part::Other,
-        Mark::OpenParen => Part::Open,
-        Mark::CloseParen => Part::Close,
-        Mark::Times => Part::Binary(Operator::Times),
-        Mark::Slash => Part::Binary(Operator::Over),
-        Mark::Percent => Part::Binary(Operator::Modulo),
-        Mark::Plus => Part::Binary(Operator::Plus),
-        Mark::Minus => Part::Binary(Operator::Minus),
-        Mark::ShiftLeft => Part::Binary(Operator::ShiftLeft),
-        Mark::ShiftRight => Part::Binary(Operator::ShiftRight),
-        Mark::Less => Part::Binary(Operator::Less),
-        Mark::AtMost => Part::Binary(Operator::AtMost),
-        Mark::More => Part::Binary(Operator::More),
-        Mark::AtLeast => Part::Binary(Operator::AtLeast),
-        Mark::Same => Part::Binary(Operator::Same),
-        Mark::Unlike => Part::Binary(Operator::Unlike),
-        Mark::Ampersand => Part::Binary(Operator::And),
-        Mark::Caret => Part::Binary(Operator::Xor),
-        Mark::Bar => Part::Binary(Operator::Or),
+        Mark::OpenBrace => ExpressionWord::Other,
+        Mark::CloseBrace => ExpressionWord::Other,
+        Mark::OpenBracket => ExpressionWord::Other,
+        Mark::CloseBracket => ExpressionWord::Other,
+        Mark::Semicolon => ExpressionWord::Other,
+        Mark::Colon => ExpressionWord::Other,
+        Mark::Comma => ExpressionWord::Other,
+        Mark::Equals => ExpressionWord::Other,
+        Mark::At => ExpressionWord::Other,
+        Mark::PlusEquals => ExpressionWord::Other,
+        Mark::PercentEquals => ExpressionWord::Other,
+        Mark::OpenParen => ExpressionWord::Open,
+        Mark::CloseParen => ExpressionWord::Close,
+        Mark::Times => ExpressionWord::Binary(Operator::Times),
+        Mark::Slash => ExpressionWord::Binary(Operator::Over),
+        Mark::Percent => ExpressionWord::Binary(Operator::Modulo),
+        Mark::Plus => ExpressionWord::Binary(Operator::Plus),
+        Mark::Minus => ExpressionWord::Binary(Operator::Minus),
+        Mark::ShiftLeft => ExpressionWord::Binary(Operator::ShiftLeft),
+        Mark::ShiftRight => ExpressionWord::Binary(Operator::ShiftRight),
+        Mark::Less => ExpressionWord::Binary(Operator::Less),
+        Mark::AtMost => ExpressionWord::Binary(Operator::AtMost),
+        Mark::More => ExpressionWord::Binary(Operator::More),
+        Mark::AtLeast => ExpressionWord::Binary(Operator::AtLeast),
+        Mark::Same => ExpressionWord::Binary(Operator::Same),
+        Mark::Unlike => ExpressionWord::Binary(Operator::Unlike),
+        Mark::Ampersand => ExpressionWord::Binary(Operator::And),
+        Mark::Caret => ExpressionWord::Binary(Operator::Xor),
+        Mark::Bar => ExpressionWord::Binary(Operator::Or),
     }
 }
 
 // What a word is in an expression.
-fn part_of(word: Word) -> Part
+fn part_of(word: Word) -> ExpressionWord
     ensures { λ r. ⌜ r ≡ partOf word ⌝ }
 {
     match word {
-        Word::End => Part::Other,
-        Word::Name => Part::Other,
-        Word::Keyword(_) => Part::Other,
-        Word::Number(value) => Part::Literal(value),
-        Word::String => Part::Other,
+        Word::End => ExpressionWord::Other,
+        Word::Name => ExpressionWord::Other,
+        Word::Keyword(_) => ExpressionWord::Other,
+        Word::Number(value) => ExpressionWord::Literal(value),
+        Word::String => ExpressionWord::Other,
         Word::Mark(mark) => mark_part(mark),
-        Word::Bad(_) => Part::Other,
+        Word::Bad(_) => ExpressionWord::Other,
     }
 }
 
@@ -108,39 +106,39 @@ fn in_row(operator: Operator, row: usize) -> OperatorLookup
 }
 
 // The operator that a part is, where it has that row.
-fn operator_in(part: Part, row: usize) -> OperatorLookup
+fn operator_in(part: ExpressionWord, row: usize) -> OperatorLookup
     ensures { λ r. ⌜ r ≡ operatorIn row part ⌝ }
 {
     match part {
-        Part::Literal(_) => OperatorLookup::Missing,
-        Part::Open => OperatorLookup::Missing,
-        Part::Close => OperatorLookup::Missing,
-        Part::Binary(operator) => in_row(operator, row),
-        Part::Other => OperatorLookup::Missing,
+        ExpressionWord::Literal(_) => OperatorLookup::Missing,
+        ExpressionWord::Open => OperatorLookup::Missing,
+        ExpressionWord::Close => OperatorLookup::Missing,
+        ExpressionWord::Binary(operator) => in_row(operator, row),
+        ExpressionWord::Other => OperatorLookup::Missing,
     }
 }
 
-fn is_operator(part: Part) -> bool
+fn is_operator(part: ExpressionWord) -> bool
     ensures { λ r. ⌜ r ≡ isOperator part ⌝ }
 {
     match part {
-        Part::Literal(_) => false,
-        Part::Open => false,
-        Part::Close => false,
-        Part::Binary(_) => true,
-        Part::Other => false,
+        ExpressionWord::Literal(_) => false,
+        ExpressionWord::Open => false,
+        ExpressionWord::Close => false,
+        ExpressionWord::Binary(_) => true,
+        ExpressionWord::Other => false,
     }
 }
 
-fn is_close(part: Part) -> bool
+fn is_close(part: ExpressionWord) -> bool
     ensures { λ r. ⌜ r ≡ isClose part ⌝ }
 {
     match part {
-        Part::Literal(_) => false,
-        Part::Open => false,
-        Part::Close => true,
-        Part::Binary(_) => false,
-        Part::Other => false,
+        ExpressionWord::Literal(_) => false,
+        ExpressionWord::Open => false,
+        ExpressionWord::Close => true,
+        ExpressionWord::Binary(_) => false,
+        ExpressionWord::Other => false,
     }
 }
 
@@ -155,16 +153,16 @@ fn first_of(left: Refusal, right: Refusal) -> Refusal
 }
 
 // What the operator at `operator_place` gives, in an expression that begins at `place`.
-fn give(operator_place: usize, place: usize, outcome: Outcome) -> Number
+fn give(operator_place: usize, place: usize, outcome: Computed) -> Number
     ensures { λ r. ⌜ r ≡ given «operator_place» place outcome ⌝ }
 {
     match outcome {
-        Outcome::Is(value) => Number {
+        Computed::Is(value) => Number {
             value,
             place,
             refusal: Refusal::Nowhere,
         },
-        Outcome::Out => Number {
+        Computed::Out => Number {
             value: 0,
             place,
             refusal: Refusal::AtOperator(operator_place),
@@ -207,7 +205,7 @@ fn close(text: &[u8], at: usize, place: usize, number: Number) -> NumberReading
     let token = lex::next_token(text, at);
     let word = token.word;
     if !is_close(part_of(word)) {
-        return NumberReading::Stop(3, token.start);
+        return NumberReading::Refused(3, token.start);
     }
     let refusal = number.refusal;
     let placed = Number {
@@ -225,7 +223,7 @@ fn read_operand(text: &[u8], at: usize, depth: usize) -> NumberReading
     let token = lex::next_token(text, at);
     let word = token.word;
     match part_of(word) {
-        Part::Literal(value) => {
+        ExpressionWord::Literal(value) => {
             let number = Number {
                 value,
                 place: token.start,
@@ -233,18 +231,18 @@ fn read_operand(text: &[u8], at: usize, depth: usize) -> NumberReading
             };
             NumberReading::Done(number, token.end)
         }
-        Part::Open => {
+        ExpressionWord::Open => {
             if depth == 0 {
-                return NumberReading::Stop(18, token.start);
+                return NumberReading::Refused(18, token.start);
             }
             match read_row(text, token.end, depth - 1, ROW_COUNT) {
                 NumberReading::Done(number, next) => close(text, next, token.start, number),
-                NumberReading::Stop(number, place) => NumberReading::Stop(number, place),
+                NumberReading::Refused(number, place) => NumberReading::Refused(number, place),
             }
         }
-        Part::Close => NumberReading::Stop(3, token.start),
-        Part::Binary(_) => NumberReading::Stop(3, token.start),
-        Part::Other => NumberReading::Stop(3, token.start),
+        ExpressionWord::Close => NumberReading::Refused(3, token.start),
+        ExpressionWord::Binary(_) => NumberReading::Refused(3, token.start),
+        ExpressionWord::Other => NumberReading::Refused(3, token.start),
     }
 }
 
@@ -256,7 +254,7 @@ fn read_row(text: &[u8], at: usize, depth: usize, row: usize) -> NumberReading
         return read_operand(text, at, depth);
     }
     match read_row(text, at, depth, row - 1) {
-        NumberReading::Stop(number, place) => NumberReading::Stop(number, place),
+        NumberReading::Refused(number, place) => NumberReading::Refused(number, place),
         NumberReading::Done(first, behind) => {
             let mut left = first;
             let mut here = behind;
@@ -269,8 +267,8 @@ fn read_row(text: &[u8], at: usize, depth: usize, row: usize) -> NumberReading
                     }
                     OperatorLookup::Found(operator) => {
                         match read_row(text, token.end, depth, row - 1) {
-                            NumberReading::Stop(number, place) => {
-                                return NumberReading::Stop(number, place);
+                            NumberReading::Refused(number, place) => {
+                                return NumberReading::Refused(number, place);
                             }
                             NumberReading::Done(right, next) => {
                                 left = combine(operator, token.start, left, right);
@@ -302,5 +300,5 @@ pub fn read_number(text: &[u8], at: usize) -> NumberReading
             return NumberReading::Done(number, token.end);
         }
     }
-    read_row(text, at, PARENTHESIS_LIMIT, ROW_COUNT)
+    read_row(text, at, basics::PARENTHESIS_LIMIT, ROW_COUNT)
 }

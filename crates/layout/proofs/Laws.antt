@@ -6,7 +6,7 @@ use Prim.Native.Nat.{ℕ, _+_, _-_, _*_, _<_, _≤_}
 use native.Mathlib.Omega.{arith}
 use lib.Dec.{eqb, leb}
 use borrow.Author.Tests.{eq-eqb, ne-eqb, leb-true}
-use Rattle.chars.specs.Choice.{if_then_else_}
+use Rattle.basics.specs.Choice.{if_then_else_}
 use Rattle.chars.proofs.Laws.{either, and-left, and-right}
 use Rattle.expressions.specs.declared.Number.{Number}
 use Rattle.parts.specs.declared.Kind.{Kind}
@@ -17,32 +17,34 @@ use Rattle.parts.specs.declared.Suffix.the-variants as suffix
 use Rattle.parts.specs.declared.SuffixKind.{SuffixKind}
 use Rattle.parts.specs.declared.SuffixKind.the-variants.{Reset, Address, Stride, Alignment}
 use Rattle.parts.specs.declared.Instance.{Instance}
-use Rattle.settings.specs.Settings.{isField, isAlignment}
-use Rattle.suffixes.specs.Suffixes.{firstOf, isSize, arrayFault, suffixRange, suffixFault, isArray, isBarred, instanceFault}
-use Rattle.suffixes.specs.declared.Fault.the-variants.{Sound}
-use Rattle.properties.specs.Assigned.{orElse}
-use Rattle.properties.specs.declared.Given.{Given}
+use Rattle.property_values.specs.Settings.{isField, isAlignment}
+use Rattle.basics.specs.Judged.{firstOf}
+use Rattle.suffixes.specs.Suffixes.{isSize, arrayFault, suffixRange, suffixFault, isArray, isBarred, instanceFault}
+use Rattle.basics.specs.declared.Fault.the-variants.{None}
+use Rattle.basics.specs.Given.{orElse}
+use Rattle.basics.specs.declared.Given.{Given}
+use Rattle.basics.specs.Limits.{arrayLimit, alignmentLimit, highestAddress}
 use Rattle.components.specs.Components.{startOf}
-use Rattle.components.specs.declared.Offset.{Offset}
+use Rattle.fields.specs.declared.Offset.{Offset}
 use Rattle.components.specs.declared.Start.{Start}
 use Rattle.components.specs.declared.Start.the-variants as start
 use Rattle.components.proofs.Laws.{first-sound, ranged-sound, settled-sound, later-sound}
-use Rattle.offsets.specs.Offsets.{cap, cut, raised, commonMultiple, powerAbove}
-use Rattle.offsets.proofs.Laws.{cut-bound, cut-capped, cut-positive, cut-low, cut-stays, cut-sum, cut-product, cut-raised, cut-common, cut-power, common-low, above-reaches, alignment-low, alignment-high}
+use Rattle.capped.specs.Offsets.{cap, factorBound, cut, raised, commonMultiple, powerAbove}
+use Rattle.capped.proofs.Laws.{cut-bound, cut-capped, cut-positive, cut-low, cut-stays, cut-sum, cut-product, cut-raised, cut-common, cut-power, common-low, above-reaches, alignment-low, alignment-high}
 use Rattle.layout.specs.Layout.{elements, strideOr, strideOf, spanOf, modeStep, stepOr, stepOf, startAfter, laid, cutShape, cutOffset, cutLaid}
-use Rattle.layout.specs.Fitting.{Fitting, StartBelow, start-free, start-at, StartsAt}
+use Rattle.layout.specs.Fitting.{Layable, StartBelow, start-free, start-at, StartsAt}
 use Rattle.layout.specs.declared.Shape.{Shape}
 
 -- what a sound instance of a register or regfile says of its numbers
-given-sound : (barred : Bool) (k : SuffixKind) (mark : ℕ) (n : Number) → suffixFault barred k (suffix.Given mark n) ≡ Sound → suffixRange k (n .value) ≡ true
+given-sound : (barred : Bool) (k : SuffixKind) (mark : ℕ) (n : Number) → suffixFault barred k (suffix.Given mark n) ≡ None → suffixRange k (n .value) ≡ true
 given-sound true k mark n e = absurd (let z : _≡_ {A = ℕ} 0 1 = cc in omega arith)
 given-sound false k mark n e = ranged-sound (suffixRange k (n .value)) (n .place) (settled-sound (n .refusal) _ e)
 
-size-sound : (n : ℕ) → isSize false n ≡ true → (1 ≤ n) × (n ≤ 1024)
+size-sound : (n : ℕ) → isSize false n ≡ true → (1 ≤ n) × (n ≤ arrayLimit)
 unfolding isSize
-size-sound n t = (leb-true 1 n (and-left (leb 1 n) (leb n 1024) t), leb-true n 1024 (and-right (leb 1 n) (leb n 1024) t))
+size-sound n t = (leb-true 1 n (and-left (leb 1 n) (leb n arrayLimit) t), leb-true n arrayLimit (and-right (leb 1 n) (leb n arrayLimit) t))
 
-array-sound : (a : Array) → arrayFault false a ≡ Sound → (1 ≤ elements a) × (elements a ≤ 1024)
+array-sound : (a : Array) → arrayFault false a ≡ None → (1 ≤ elements a) × (elements a ≤ arrayLimit)
 array-sound array.Missing e = (omega arith, omega arith)
 array-sound (array.Size mark n) e = size-sound (n .value) (ranged-sound (isSize false (n .value)) (n .place) (settled-sound (n .refusal) _ e))
 array-sound (array.Range mark left right) e = absurd (let z : _≡_ {A = ℕ} 0 1 = cc in omega arith)
@@ -50,43 +52,43 @@ array-sound (array.Range mark left right) e = absurd (let z : _≡_ {A = ℕ} 0 
 address-range : (n : ℕ) → suffixRange Address n ≡ true → n < cap
 unfolding suffixRange
 address-range n t =
-    let l : n ≤ 4294967295 = leb-true n 4294967295 t in
+    let l : n ≤ highestAddress = leb-true n highestAddress t in
     omega arith
 
-address-sound : (barred : Bool) (x : Suffix) → suffixFault barred Address x ≡ Sound → StartBelow (startOf x)
+address-sound : (barred : Bool) (x : Suffix) → suffixFault barred Address x ≡ None → StartBelow (startOf x)
 address-sound barred suffix.Missing e = start-free
 address-sound barred (suffix.Given mark n) e = start-at (address-range (n .value) (given-sound barred Address mark n e))
 
-stride-range : (n : ℕ) → suffixRange Stride n ≡ true → (1 ≤ n) × (n ≤ 4294967295)
+stride-range : (n : ℕ) → suffixRange Stride n ≡ true → (1 ≤ n) × (n ≤ highestAddress)
 unfolding suffixRange
-stride-range n t = (leb-true 1 n (and-left (leb 1 n) (leb n 4294967295) t), leb-true n 4294967295 (and-right (leb 1 n) (leb n 4294967295) t))
+stride-range n t = (leb-true 1 n (and-left (leb 1 n) (leb n highestAddress) t), leb-true n highestAddress (and-right (leb 1 n) (leb n highestAddress) t))
 
-stride-sound : (barred : Bool) (x : Suffix) → suffixFault barred Stride x ≡ Sound → (1 ≤ strideOr x 1) × (strideOr x 1 ≤ 4294967295)
+stride-sound : (barred : Bool) (x : Suffix) → suffixFault barred Stride x ≡ None → (1 ≤ strideOr x 1) × (strideOr x 1 ≤ highestAddress)
 stride-sound barred suffix.Missing e = (omega arith, omega arith)
 stride-sound barred (suffix.Given mark n) e = stride-range (n .value) (given-sound barred Stride mark n e)
 
-step-range : (n : ℕ) → suffixRange Alignment n ≡ true → (1 ≤ n) × (n ≤ 65536)
+step-range : (n : ℕ) → suffixRange Alignment n ≡ true → (1 ≤ n) × (n ≤ alignmentLimit)
 unfolding suffixRange
 step-range n t = (alignment-low n t, alignment-high n t)
 
-step-sound : (barred : Bool) (x : Suffix) → suffixFault barred Alignment x ≡ Sound → (1 ≤ stepOr x 1) × (stepOr x 1 ≤ 65536)
+step-sound : (barred : Bool) (x : Suffix) → suffixFault barred Alignment x ≡ None → (1 ≤ stepOr x 1) × (stepOr x 1 ≤ alignmentLimit)
 step-sound barred suffix.Missing e = (omega arith, omega arith)
 step-sound barred (suffix.Given mark n) e = step-range (n .value) (given-sound barred Alignment mark n e)
 
-module _ (kind : Kind) (i : Instance) (f : isField kind ≡ false) (e : instanceFault kind i ≡ Sound) where
-  pub sound-elements : (1 ≤ elements (i .array)) × (elements (i .array) ≤ 1024)
+module _ (kind : Kind) (i : Instance) (f : isField kind ≡ false) (e : instanceFault kind i ≡ None) where
+  pub sound-elements : (1 ≤ elements (i .array)) × (elements (i .array) ≤ arrayLimit)
   unfolding instanceFault
   sound-elements = array-sound (i .array) (rw f at (first-sound (arrayFault (isField kind) (i .array)) _ e))
 
   behind-reset : firstOf (suffixFault (isBarred Address (isField kind) i) Address (i .address))
       (firstOf (suffixFault (isBarred Stride (isField kind) i) Stride (i .stride))
-      (suffixFault (isBarred Alignment (isField kind) i) Alignment (i .alignment))) ≡ Sound
+      (suffixFault (isBarred Alignment (isField kind) i) Alignment (i .alignment))) ≡ None
   unfolding instanceFault
   behind-reset =
       later-sound (suffixFault (isBarred Reset (isField kind) i) Reset (i .reset)) _ (later-sound (arrayFault (isField kind) (i .array)) _ e)
 
   behind-address : firstOf (suffixFault (isBarred Stride (isField kind) i) Stride (i .stride))
-      (suffixFault (isBarred Alignment (isField kind) i) Alignment (i .alignment)) ≡ Sound
+      (suffixFault (isBarred Alignment (isField kind) i) Alignment (i .alignment)) ≡ None
   behind-address = later-sound (suffixFault (isBarred Address (isField kind) i) Address (i .address)) _ behind-reset
 
   -- `@`
@@ -94,11 +96,11 @@ module _ (kind : Kind) (i : Instance) (f : isField kind ≡ false) (e : instance
   sound-start = address-sound (isBarred Address (isField kind) i) (i .address) (first-sound (suffixFault (isBarred Address (isField kind) i) Address (i .address)) _ behind-reset)
 
   -- `+=`
-  pub sound-stride : (1 ≤ strideOr (i .stride) 1) × (strideOr (i .stride) 1 ≤ 4294967295)
+  pub sound-stride : (1 ≤ strideOr (i .stride) 1) × (strideOr (i .stride) 1 ≤ highestAddress)
   sound-stride = stride-sound (isBarred Stride (isField kind) i) (i .stride) (first-sound (suffixFault (isBarred Stride (isField kind) i) Stride (i .stride)) _ behind-address)
 
   -- `%=`
-  pub sound-step : (1 ≤ stepOr (i .alignment) 1) × (stepOr (i .alignment) 1 ≤ 65536)
+  pub sound-step : (1 ≤ stepOr (i .alignment) 1) × (stepOr (i .alignment) 1 ≤ alignmentLimit)
   sound-step = step-sound (isBarred Alignment (isField kind) i) (i .alignment) (later-sound (suffixFault (isBarred Stride (isField kind) i) Stride (i .stride)) _ behind-address)
 
 -- two numbers that are one, cut
@@ -170,12 +172,6 @@ module _ (a : Given) (s : Shape) (i : Instance) where
     pub cut-strided : cut (strideOf a (cutShape s) i) ≡ cut (strideOf a s i)
     cut-strided = strided .same
 
-    pub cut-spanned : cut (spanOf a (cutShape s) i) ≡ cut (spanOf a s i)
-    cut-spanned = spanned .same
-
-    pub cut-mode-step : (m : ℕ) → cut (modeStep m a (cutShape s) i) ≡ cut (modeStep m a s i)
-    cut-mode-step m = stepped m .same
-
   -- steps of 1 at least
   module _ (p : 1 ≤ s .size) where
     span-low : 1 ≤ spanOf a s i
@@ -206,10 +202,7 @@ module _ (m : ℕ) (a : Given) (s : Shape) (i : Instance) where
       alike-step (alike-common (stepped a s i (alignment-low (orElse 1 a) t) m) (orElse 1 a) t
       (mode-low a (cutShape s) i (cut-positive (s .size) p) (cut-positive (s .access) q) m) (mode-low a s i p q m)) (i .alignment)
 
-  pub cut-step : isAlignment (orElse 1 a) ≡ true → 1 ≤ s .size → 1 ≤ s .access → cut (stepOf m a (cutShape s) i) ≡ cut (stepOf m a s i)
-  cut-step t p q = alike-steps t p q .same
-
-  pub cut-laid : (end : Offset) → isAlignment (orElse 1 a) ≡ true → 1 ≤ s .size → 1 ≤ s .access → (kind : Kind) → isField kind ≡ false → instanceFault kind i ≡ Sound
+  pub cut-laid : (end : Offset) → isAlignment (orElse 1 a) ≡ true → 1 ≤ s .size → 1 ≤ s .access → (kind : Kind) → isField kind ≡ false → instanceFault kind i ≡ None
       → cutLaid (laid m a (cutShape s) i (cutOffset end)) ≡ cutLaid (laid m a s i end)
   unfolding laid
   cut-laid end t p q kind f e =
@@ -233,7 +226,7 @@ turned true e = rw (← e)
 turned false e = rw (← e)
 
 -- what the code makes
-module _ (a : Given) (s : Shape) (i : Instance) (f : Fitting a s i) where
+module _ (a : Given) (s : Shape) (i : Instance) (f : Layable a s i) where
   module _ {own : ℕ} (e : own ≡ orElse 1 a) where
     pub own-aligned : isAlignment own ≡ true
     own-aligned = rw e (f .aligned)
@@ -258,7 +251,7 @@ module _ (a : Given) (s : Shape) (i : Instance) (f : Fitting a s i) where
     pub count-low : 1 ≤ n
     count-low = rw e (sound-elements (f .kind) i (f .addressed) (f .sound) .0)
 
-    pub count-high : n - 1 ≤ 65536
+    pub count-high : n - 1 ≤ factorBound
     count-high = omega (arith, sound-elements (f .kind) i (f .addressed) (f .sound) .1)
 
   pub span-done : {stride count before r : ℕ} → stride ≡ cut (strideOf a s i) → count ≡ elements (i .array) → before ≡ cut (stride * (count - 1)) → r ≡ cut (before + s .size) → r ≡ cut (spanOf a s i)
@@ -299,7 +292,7 @@ module _ (a : Given) (s : Shape) (i : Instance) (f : Fitting a s i) where
     mode-positive e = rw e (cut-positive (modeStep m a s i) (mode-low a s i (f .sized .0) (f .accessed .0) m))
 
     module _ {own step standard r : ℕ} (e : own ≡ orElse 1 a) (g : step ≡ cut (modeStep m a s i)) (h : standard ≡ cut (commonMultiple own step)) (k : r ≡ strideOr (i .alignment) standard) where
-      given : (1 ≤ strideOr (i .alignment) 1) × (strideOr (i .alignment) 1 ≤ 65536)
+      given : (1 ≤ strideOr (i .alignment) 1) × (strideOr (i .alignment) 1 ≤ alignmentLimit)
       given = rw (or-same (i .alignment) 1) (sound-step (f .kind) i (f .addressed) (f .sound))
 
       pub step-high : r ≤ cap

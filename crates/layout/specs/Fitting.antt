@@ -3,27 +3,27 @@ use mathlib.Core.Path.{_≡_}
 use Prim.Native.Nat.{ℕ, _<_, _≤_}
 use Rattle.parts.specs.declared.Kind.{Kind}
 use Rattle.parts.specs.declared.Instance.{Instance}
-use Rattle.settings.specs.Settings.{isField, isAlignment}
+use Rattle.property_values.specs.Settings.{isField, isAlignment}
 use mathlib.Core.Bool.{true, false}
 use Rattle.suffixes.specs.Suffixes.{instanceFault}
-use Rattle.suffixes.specs.declared.Fault.the-variants.{Sound}
-use Rattle.properties.specs.Assigned.{orElse}
-use Rattle.properties.specs.declared.Given.{Given}
-use Rattle.components.specs.declared.Offset.{Offset}
+use Rattle.basics.specs.declared.Fault.the-variants.{None}
+use Rattle.basics.specs.Given.{orElse}
+use Rattle.basics.specs.declared.Given.{Given}
+use Rattle.fields.specs.declared.Offset.{Offset}
 use Rattle.components.specs.declared.Start.{Start}
 use Rattle.components.specs.declared.Start.the-variants as start
-use Rattle.offsets.specs.Offsets.{cap}
+use Rattle.capped.specs.Offsets.{cap}
 use Rattle.layout.specs.Layout.{startAfter, cutOffset}
 use Rattle.layout.specs.declared.Shape.{Shape}
 
 -- a body's alignment, an element's shape and an instance of a register or regfile whose suffixes are sound
-pub record Fitting (alignment : Given) (s : Shape) (i : Instance) : Type 0 where
+pub record Layable (alignment : Given) (s : Shape) (i : Instance) : Type 0 where
   pub aligned : isAlignment (orElse 1 alignment) ≡ true
   pub sized : (1 ≤ s .size) × (s .size ≤ cap)
   pub accessed : (1 ≤ s .access) × (s .access ≤ cap)
   pub kind : Kind
   pub addressed : isField kind ≡ false
-  pub sound : instanceFault kind i ≡ Sound
+  pub sound : instanceFault kind i ≡ None
 
 -- an address that is given lies below the cap
 pub data StartBelow : Start → Type 0 where

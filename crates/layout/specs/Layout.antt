@@ -4,26 +4,26 @@ use mathlib.Core.List.{List, [], _∷_, _++_}
 use Prim.Native.Nat.{ℕ, _+_, _-_, _*_, _/_}
 use lib.Dec.{eqb}
 use lib.ListN.{getD}
-use Rattle.chars.specs.Choice.{if_then_else_}
+use Rattle.basics.specs.Choice.{if_then_else_}
 use Rattle.parts.specs.declared.Array.{Array}
 use Rattle.parts.specs.declared.Array.the-variants as array
 use Rattle.parts.specs.declared.Suffix.{Suffix}
 use Rattle.parts.specs.declared.Suffix.the-variants as suffix
 use Rattle.parts.specs.declared.Instance.{Instance}
-use Rattle.settings.specs.Codes.{modeCode}
-use Rattle.settings.specs.declared.Mode.the-variants as mode
+use Rattle.fields.specs.Codes.{modeCode}
+use Rattle.fields.specs.declared.Mode.the-variants as mode
 use Rattle.suffixes.specs.Suffixes.{isArray}
-use Rattle.properties.specs.Assigned.{orElse}
-use Rattle.properties.specs.declared.Given.{Given}
-use Rattle.properties.specs.declared.Given.the-variants.{Nothing}
+use Rattle.basics.specs.Given.{orElse}
+use Rattle.basics.specs.declared.Given.{Given}
+use Rattle.basics.specs.declared.Given.the-variants.{Nothing}
 use Rattle.components.specs.Components.{startOf}
 use Rattle.components.specs.declared.Component.{Component}
 use Rattle.components.specs.declared.Component.the-variants as component
-use Rattle.components.specs.declared.Offset.{Offset}
+use Rattle.fields.specs.declared.Offset.{Offset}
 use Rattle.components.specs.declared.Start.{Start}
 use Rattle.components.specs.declared.Start.the-variants as start
-use Rattle.offsets.specs.Offsets.{cut, larger, raised, commonMultiple, powerAbove}
-use Rattle.table.specs.Definitions.{Child, Definition}
+use Rattle.capped.specs.Offsets.{cut, larger, raised, commonMultiple, powerAbove}
+use Rattle.cells.specs.Definitions.{Child, Definition}
 use Rattle.layout.specs.declared.Shape.{Shape}
 use Rattle.layout.specs.declared.Laid.{Laid}
 

@@ -7,7 +7,7 @@ use native.Mathlib.Omega.{arith}
 use lib.Dec.{ltb, eqb}
 use lib.ListN.{length, take, drop, drop-of-length-le, length-drop, length-take}
 use borrow.Author.Tests.{ltb-true, ltb-false}
-use Rattle.chars.specs.Choice.{if_then_else_}
+use Rattle.basics.specs.Choice.{if_then_else_}
 use Rattle.chars.specs.Ascii.{isBlank, isLineEnd, isLetter, isNameByte, isNumberByte, isDigit}
 use Rattle.chars.specs.Run.{run}
 use Rattle.chars.specs.declared.Radix.the-variants.{Decimal}
@@ -22,11 +22,9 @@ use Rattle.lex.specs.declared.Next.the-variants.{At, Unclosed}
 use Rattle.lex.specs.declared.Token.{Token}
 use Rattle.lex.specs.declared.Word.{Word}
 use Rattle.lex.specs.declared.Word.the-variants as word
-use Rattle.lex.specs.declared.Cause.the-variants as cause
-use Rattle.lex.specs.Limits.{stringLimit}
 use Rattle.lex.specs.Blank.{blanks, inLine, inBlock, nextFrom}
 use Rattle.lex.specs.Quote.{closes, closing, closingFrom}
-use Rattle.lex.specs.Token.{token, nameWord, numberWord, nameToken, numberToken, stringTo, stringToken, longer, markWord, markToken, tokenFrom, tokenPast, tokenAt}
+use Rattle.lex.specs.Token.{token, nameToken, numberToken, stringTo, stringToken, longer, markWord, markToken, tokenFrom, tokenPast, tokenAt}
 
 -- what holds of both choices
 both : {A : Type 0} (Q : A → Type 0) (t : Bool) {x y : A} → Q x → Q y → Q (if t then x else y)

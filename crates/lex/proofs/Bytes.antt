@@ -9,7 +9,7 @@ use lib.Dec.{ltb, eqb}
 use lib.ListN.{length, take, drop, getD, length-take, length-drop}
 use lib.Seq.{getD-take, take-nil, take-all, take-length, drop-drop}
 use borrow.Author.Tests.{ltb-true, ltb-false, eqb-true, eqb-false}
-use Rattle.chars.specs.Choice.{if_then_else_}
+use Rattle.basics.specs.Choice.{if_then_else_}
 use Rattle.chars.specs.Ascii.{isBlank, isLineEnd, isLetter, isNameByte, isNumberByte, isDigit}
 use Rattle.chars.specs.Run.{run, every}
 use Rattle.chars.specs.declared.Radix.the-variants.{Decimal}
@@ -30,7 +30,7 @@ use Rattle.lex.specs.declared.Cause.the-variants as cause
 use Rattle.lex.specs.declared.Token.{Token}
 use Rattle.lex.specs.declared.Word.{Word}
 use Rattle.lex.specs.declared.Word.the-variants as word
-use Rattle.lex.specs.Limits.{nameLimit, stringLimit}
+use Rattle.basics.specs.Limits.{nameLimit, stringLimit}
 use Rattle.lex.specs.Blank.{blanks, inLine, inBlock, nextFrom}
 use Rattle.lex.specs.Quote.{closes, closing}
 use Rattle.lex.specs.Token.{token, keywordWord, nameWord, numberWord, nameToken, numberToken, stringTo, stringToken, longer, markWord, markToken, tokenFrom, tokenPast, tokenAt}

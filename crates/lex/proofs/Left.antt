@@ -8,9 +8,9 @@ use Rattle.lex.specs.declared.Token.{Token}
 use Rattle.lex.specs.declared.Word.{Word}
 use Rattle.lex.specs.declared.Word.the-variants as word
 use Rattle.lex.specs.declared.Verdict.{Verdict}
-use Rattle.lex.specs.declared.Verdict.the-variants.{Accepted, Refused}
-use Rattle.lex.specs.declared.Step.{Step}
-use Rattle.lex.specs.declared.Step.the-variants.{Stop, GoOn}
+use Rattle.lex.specs.declared.Verdict.the-variants.{Accepted}
+use Rattle.lex.specs.declared.Scanned.{Scanned}
+use Rattle.lex.specs.declared.Scanned.the-variants.{Settled, GoOn}
 use Rattle.lex.specs.Token.{tokenAt}
 use Rattle.lex.specs.Words.{judgedWord, judged, stepped, firstBad}
 use Rattle.lex.proofs.Bounds.{token-within, token-moves}
@@ -18,7 +18,7 @@ use Rattle.lex.proofs.Bounds.{token-within, token-moves}
 -- a token at which the walk goes on is not the end
 go-moves : (w : Word) (p : ℕ) → judgedWord w p ≡ GoOn → w ≡ word.End → ⊥
 go-moves w p g e =
-    let s : Stop Accepted ≡ GoOn = rw e at g in
+    let s : Settled Accepted ≡ GoOn = rw e at g in
     let z : _≡_ {A = ℕ} 0 1 = cc in
     omega arith
 
@@ -32,7 +32,7 @@ pub record Left (t : List ℕ) (at : ℕ) (x : Verdict) : Type 0 where
 go-on : (t : List ℕ) (at : ℕ) → at ≤ length t → judged (tokenAt t at) ≡ GoOn → (at < tokenAt t at .end) × (tokenAt t at .end ≤ length t)
 go-on t at h g = (token-moves t at (go-moves (tokenAt t at .word) (tokenAt t at .start) g), token-within t at h .inside)
 
-stop-at : (f : ℕ) (t : List ℕ) (at : ℕ) {x a : Verdict} → length t < f + at → at ≤ length t → firstBad f t at ≡ x → judged (tokenAt t at) ≡ Stop a → a ≡ x
+stop-at : (f : ℕ) (t : List ℕ) (at : ℕ) {x a : Verdict} → length t < f + at → at ≤ length t → firstBad f t at ≡ x → judged (tokenAt t at) ≡ Settled a → a ≡ x
 unfolding firstBad
 stop-at zero t at e i m j = absurd (omega arith)
 stop-at (suc f) t at e i m j = rw j at m
@@ -44,10 +44,10 @@ more-at (suc f) t at e i m g =
     let p : (at < tokenAt t at .end) × (tokenAt t at .end ≤ length t) = go-on t at i g in
     record { tokens = f; enough = omega arith; inside = p .1; meaning = rw g at m }
 
-module _ (t : List ℕ) (at : ℕ) {x : Verdict} {k : Token} {s : Step} (l : Left t at x) (q : k ≡ tokenAt t at) (j : s ≡ judged k) where
-  pub left-stop : {a : Verdict} → s ≡ Stop a → a ≡ x
+module _ (t : List ℕ) (at : ℕ) {x : Verdict} {k : Token} {s : Scanned} (l : Left t at x) (q : k ≡ tokenAt t at) (j : s ≡ judged k) where
+  pub left-stop : {a : Verdict} → s ≡ Settled a → a ≡ x
   left-stop z =
-      let e : judged k ≡ Stop _ = sym j ∙ z in
+      let e : judged k ≡ Settled _ = sym j ∙ z in
       stop-at (l .tokens) t at (l .enough) (l .inside) (l .meaning) (rw q at e)
 
   pub left-more : s ≡ GoOn → Left t (k .end) x
@@ -66,10 +66,10 @@ unfolding firstBad
 more-tokens zero t at e i = absurd (omega arith)
 more-tokens (suc f) t at e i = by (judged (tokenAt t at)) refl (more-tokens f t (tokenAt t at .end))
   where
-    by : (s : Step) → judged (tokenAt t at) ≡ s
+    by : (s : Scanned) → judged (tokenAt t at) ≡ s
         → (length t < f + tokenAt t at .end → tokenAt t at .end ≤ length t → firstBad f t (tokenAt t at .end) ≡ firstBad (suc f) t (tokenAt t at .end))
         → stepped s (firstBad f t (tokenAt t at .end)) ≡ stepped s (firstBad (suc f) t (tokenAt t at .end))
-    by (Stop v) g rec = refl
+    by (Settled v) g rec = refl
     by GoOn g rec =
         let p : (at < tokenAt t at .end) × (tokenAt t at .end ≤ length t) = go-on t at i g in
         rec (omega arith) (p .1)

@@ -5,7 +5,7 @@ use Prim.Native.Nat.{ℕ, _+_, _<_, _≤_}
 use lib.ListN.{length}
 use borrow.Author.Tests.{lt-ltb, le-ltb}
 use Rattle.lex.specs.declared.Verdict.{Verdict}
-use Rattle.lex.specs.Limits.{textLimit}
+use Rattle.basics.specs.Limits.{textLimit}
 use Rattle.lex.specs.Words.{refused, firstBad, wordsVerdict, verdictNumbers, wordsNumbers}
 
 module _ (t : List ℕ) {r : Verdict} where

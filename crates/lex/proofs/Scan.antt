@@ -1,18 +1,17 @@
 -- How the searches for the next token and for a string's end go on from a place to the next. `x` is the answer.
-use mathlib.Core.Bool.{Bool, true, false, not, _&&_}
-use mathlib.Core.Path.{_≡_, refl, sym, ap, _∙_}
+use mathlib.Core.Bool.{Bool, true, false, not}
+use mathlib.Core.Path.{_≡_, refl, sym, _∙_}
 use mathlib.Core.List.{List, [], _∷_}
-use Prim.Native.Nat.{ℕ, suc, _+_, _-_, _<_, _≤_}
+use Prim.Native.Nat.{ℕ, _+_, _<_, _≤_}
 use native.Mathlib.Omega.{arith}
 use lib.Dec.{eqb}
 use lib.ListN.{length, drop, getD, drop-of-length-le, length-drop}
 use borrow.Author.Tests.{eq-eqb, ne-eqb}
-use Rattle.chars.specs.Choice.{if_then_else_}
 use Rattle.chars.specs.Ascii.{isBlank, isLineEnd}
 use Rattle.chars.proofs.Laws.{drop-next}
 use Rattle.lex.specs.declared.Next.{Next}
 use Rattle.lex.specs.declared.Next.the-variants.{At, Unclosed}
-use Rattle.lex.specs.Blank.{blanks, inLine, inBlock, nextFrom, lineFrom, blockFrom}
+use Rattle.lex.specs.Blank.{blanks, inBlock, nextFrom, lineFrom, blockFrom}
 use Rattle.lex.specs.Quote.{closes, closing, closingFrom}
 
 drop-after : (t : List ℕ) (i : ℕ) → i + 1 < length t → drop (i + 1) t ≡ getD t (i + 1) 0 ∷ drop (i + 2) t

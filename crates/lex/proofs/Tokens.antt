@@ -1,16 +1,15 @@
 -- The tokens, one law for each way that the code goes.
 use mathlib.Core.Bool.{Bool, true, false}
-use mathlib.Core.Path.{_≡_, refl, sym, ap, _∙_}
+use mathlib.Core.Path.{_≡_, sym, _∙_}
 use mathlib.Core.List.{List, [], _∷_}
-use Prim.Native.Nat.{ℕ, suc, _+_, _-_, _<_, _≤_}
+use Prim.Native.Nat.{ℕ, _+_, _-_, _<_, _≤_}
 use native.Mathlib.Omega.{arith}
-use lib.Dec.{ltb, eqb}
 use lib.ListN.{length, take, drop, getD, drop-of-length-le, length-drop}
 use lib.Seq.{take-all}
 use borrow.Author.Tests.{eq-eqb, ne-eqb, lt-ltb, le-ltb}
-use Rattle.chars.specs.Choice.{if_then_else_}
+use Rattle.basics.specs.Limits.{nameLimit, stringLimit}
 use Rattle.chars.specs.Ascii.{isLetter, isNameByte, isNumberByte, isDigit}
-use Rattle.chars.specs.Run.{run, runEnd}
+use Rattle.chars.specs.Run.{runEnd}
 use Rattle.chars.specs.declared.Radix.the-variants.{Decimal}
 use Rattle.chars.proofs.Laws.{drop-next, run-part}
 use Rattle.vocabulary.specs.Vocabulary.{keywordOf, markOf, markBytes}
@@ -28,16 +27,16 @@ use Rattle.lex.specs.declared.Word.the-variants as word
 use Rattle.lex.specs.declared.Cause.the-variants as cause
 use Rattle.lex.specs.Blank.{nextFrom}
 use Rattle.lex.specs.Quote.{closing, closingFrom}
-use Rattle.lex.specs.Token.{token, keywordWord, nameWord, numberWord, nameToken, numberToken, stringTo, stringToken, longer, markWord, markToken, tokenFrom, tokenPast, tokenAt}
+use Rattle.lex.specs.Token.{token, keywordWord, nameWord, numberWord, nameToken, numberToken, stringToken, longer, markToken, tokenFrom, tokenAt}
 
 module _ (n : List ℕ) where
-  pub name-long : 31 < length n → word.Bad cause.Malformed ≡ nameWord n
+  pub name-long : nameLimit < length n → word.Bad cause.Malformed ≡ nameWord n
   unfolding nameWord
-  name-long h = rw (lt-ltb 31 (length n) h)
+  name-long h = rw (lt-ltb nameLimit (length n) h)
 
-  pub name-short : {l : Lookup} {w : Word} → length n ≤ 31 → l ≡ keywordOf n → w ≡ keywordWord l → w ≡ nameWord n
+  pub name-short : {l : Lookup} {w : Word} → length n ≤ nameLimit → l ≡ keywordOf n → w ≡ keywordWord l → w ≡ nameWord n
   unfolding nameWord
-  name-short h e f = rw (le-ltb 31 (length n) h, ← e) f
+  name-short h e f = rw (le-ltb nameLimit (length n) h, ← e) f
 
 -- a token from the place i of a text on
 module _ (t : List ℕ) (i : ℕ) where
@@ -58,13 +57,13 @@ module _ (t : List ℕ) (i : ℕ) where
     same-end : i + length (drop i t) ≡ length t
     same-end = simp length-drop (omega arith)
 
-    pub string-long : {q : ℕ} → x ≡ At q → 4096 < q - (i + 1) → token (word.Bad cause.Malformed) i (q + 1) ≡ stringToken i (drop i t)
+    pub string-long : {q : ℕ} → x ≡ At q → stringLimit < q - (i + 1) → token (word.Bad cause.Malformed) i (q + 1) ≡ stringToken i (drop i t)
     unfolding stringToken
-    string-long {q} f l = rw (same-search ∙ f, lt-ltb 4096 (q - (i + 1)) l)
+    string-long {q} f l = rw (same-search ∙ f, lt-ltb stringLimit (q - (i + 1)) l)
 
-    pub string-short : {q : ℕ} → x ≡ At q → q - (i + 1) ≤ 4096 → token word.String i (q + 1) ≡ stringToken i (drop i t)
+    pub string-short : {q : ℕ} → x ≡ At q → q - (i + 1) ≤ stringLimit → token word.String i (q + 1) ≡ stringToken i (drop i t)
     unfolding stringToken
-    string-short {q} f l = rw (same-search ∙ f, le-ltb 4096 (q - (i + 1)) l)
+    string-short {q} f l = rw (same-search ∙ f, le-ltb stringLimit (q - (i + 1)) l)
 
     pub string-open : {o : ℕ} → x ≡ Unclosed o → token (word.Bad cause.Unclosed) i (length t) ≡ stringToken i (drop i t)
     unfolding stringToken

@@ -1,4 +1,3 @@
-pub mod Limits
 pub mod Blank
 pub mod Quote
 pub mod Token

@@ -12,7 +12,7 @@ use Rattle.vocabulary.specs.declared.Lookup.the-variants as lookup
 use Rattle.vocabulary.specs.declared.MarkLookup.the-variants.{NoMark}
 use Rattle.numbers.specs.Number.{numberOf}
 use Rattle.numbers.specs.declared.Numeral.the-variants as numeral
-use Rattle.lex.specs.Limits.{nameLimit, stringLimit}
+use Rattle.basics.specs.Limits.{nameLimit, stringLimit}
 use Rattle.lex.specs.Quote.{closes}
 use Rattle.lex.specs.declared.Cause.{Cause}
 use Rattle.lex.specs.declared.Cause.the-variants as cause

@@ -3,7 +3,7 @@ use mathlib.Core.List.{List, [], _∷_}
 use Prim.Native.Nat.{ℕ, _+_, _-_}
 use lib.Dec.{ltb, eqb}
 use lib.ListN.{length, take, drop}
-use Rattle.chars.specs.Choice.{if_then_else_}
+use Rattle.basics.specs.Choice.{if_then_else_}
 use Rattle.chars.specs.Ascii.{isLetter, isNameByte, isNumberByte, isDigit}
 use Rattle.chars.specs.Run.{run}
 use Rattle.chars.specs.declared.Radix.the-variants.{Decimal}
@@ -15,7 +15,7 @@ use Rattle.vocabulary.specs.declared.MarkLookup.the-variants.{IsMark, NoMark}
 use Rattle.numbers.specs.Number.{numberOf}
 use Rattle.numbers.specs.declared.Numeral.{Numeral}
 use Rattle.numbers.specs.declared.Numeral.the-variants as numeral
-use Rattle.lex.specs.Limits.{nameLimit, stringLimit}
+use Rattle.basics.specs.Limits.{nameLimit, stringLimit}
 use Rattle.lex.specs.Blank.{nextFrom}
 use Rattle.lex.specs.Quote.{closing}
 use Rattle.lex.specs.declared.Next.{Next}

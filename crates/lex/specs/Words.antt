@@ -3,8 +3,8 @@ use mathlib.Core.List.{List, [], _∷_}
 use Prim.Native.Nat.{ℕ, zero, suc, _+_}
 use lib.Dec.{ltb}
 use lib.ListN.{length}
-use Rattle.chars.specs.Choice.{if_then_else_}
-use Rattle.lex.specs.Limits.{textLimit}
+use Rattle.basics.specs.Choice.{if_then_else_}
+use Rattle.basics.specs.Limits.{textLimit}
 use Rattle.lex.specs.Token.{tokenAt}
 use Rattle.lex.specs.declared.Token.{Token}
 use Rattle.lex.specs.declared.Cause.{Cause}
@@ -13,8 +13,8 @@ use Rattle.lex.specs.declared.Word.{Word}
 use Rattle.lex.specs.declared.Word.the-variants as word
 use Rattle.lex.specs.declared.Verdict.{Verdict}
 use Rattle.lex.specs.declared.Verdict.the-variants.{Accepted, Refused}
-use Rattle.lex.specs.declared.Step.{Step}
-use Rattle.lex.specs.declared.Step.the-variants.{Stop, GoOn}
+use Rattle.lex.specs.declared.Scanned.{Scanned}
+use Rattle.lex.specs.declared.Scanned.the-variants.{Settled, GoOn}
 
 -- the refusal's number for each cause: a bad word is 2, a keyword left out 4
 abbrev pub causeNumber : Cause → ℕ
@@ -28,20 +28,20 @@ abbrev pub refused : ℕ → ℕ → Verdict
 refused number at = Refused number (record { at = at })
 
 -- a bad word is refused at "its first byte"; the end accepts
-abbrev pub judgedWord : Word → ℕ → Step
-judgedWord word.End p = Stop Accepted
+abbrev pub judgedWord : Word → ℕ → Scanned
+judgedWord word.End p = Settled Accepted
 judgedWord word.Name p = GoOn
 judgedWord (word.Keyword k) p = GoOn
 judgedWord (word.Number n) p = GoOn
 judgedWord word.String p = GoOn
 judgedWord (word.Mark m) p = GoOn
-judgedWord (word.Bad c) p = Stop (refused (causeNumber c) p)
+judgedWord (word.Bad c) p = Settled (refused (causeNumber c) p)
 
-abbrev pub judged : Token → Step
+abbrev pub judged : Token → Scanned
 judged t = judgedWord (t .word) (t .start)
 
-abbrev pub stepped : Step → Verdict → Verdict
-stepped (Stop v) rest = v
+abbrev pub stepped : Scanned → Verdict → Verdict
+stepped (Settled v) rest = v
 stepped GoOn rest = rest
 
 -- the first bad word among the next `tokens` tokens from the place `at` on

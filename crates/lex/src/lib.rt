@@ -16,12 +16,6 @@ ghost use Rattle.lex.specs.Quote.{closes, closingFrom};
 ghost use Rattle.lex.specs.Token.{keywordWord, nameWord, numberWord, nameToken, numberToken, stringToken, longer, markToken, tokenFrom, tokenAt};
 ghost use Rattle.lex.specs.Words.{causeNumber, refused, judged, firstBad, wordsVerdict, verdictNumbers, wordsNumbers};
 
-const TEXT_LIMIT: usize = 65536;
-
-const NAME_LIMIT: usize = 31;
-
-const STRING_LIMIT: usize = 4096;
-
 // Where a search ended: at a place, or in a comment or string that is not closed and starts at a place.
 pub enum Next {
     At(usize),
@@ -66,8 +60,8 @@ pub enum Verdict {
 }
 
 // What a token means for the text it stands in.
-pub enum Step {
-    Stop(Verdict),
+pub enum Scanned {
+    Settled(Verdict),
     GoOn,
 }
 
@@ -142,7 +136,7 @@ fn keyword_word(lookup: Lookup) -> Word
 fn name_word(name: &[u8]) -> Word
     ensures { λ r. ⌜ r ≡ nameWord (now (name .entry)) ⌝ }
 {
-    if name.len() > NAME_LIMIT {
+    if name.len() > basics::NAME_LIMIT {
         return Word::Bad(Cause::Malformed);
     }
     keyword_word(vocabulary::keyword_of(name))
@@ -218,7 +212,7 @@ fn string_token(text: &[u8], i: usize) -> Token
 {
     match string_close(text, i) {
         Next::At(q) => {
-            if q - (i + 1) > STRING_LIMIT {
+            if q - (i + 1) > basics::STRING_LIMIT {
                 return Token {
                     word: Word::Bad(Cause::Malformed),
                     start: i,
@@ -329,18 +323,18 @@ pub fn refuse(number: u8, at: usize) -> Verdict
     Verdict::Refused(number, Place { at })
 }
 
-fn judge(token: Token) -> Step
+fn judge(token: Token) -> Scanned
     ensures { λ r. ⌜ r ≡ judged token ⌝ }
 {
     let word = token.word;
     match word {
-        Word::End => Step::Stop(Verdict::Accepted),
-        Word::Bad(cause) => Step::Stop(refuse(cause_number(cause), token.start)),
-        Word::Name => Step::GoOn,
-        Word::Keyword(_) => Step::GoOn,
-        Word::Number(_) => Step::GoOn,
-        Word::String => Step::GoOn,
-        Word::Mark(_) => Step::GoOn,
+        Word::End => Scanned::Settled(Verdict::Accepted),
+        Word::Bad(cause) => Scanned::Settled(refuse(cause_number(cause), token.start)),
+        Word::Name => Scanned::GoOn,
+        Word::Keyword(_) => Scanned::GoOn,
+        Word::Number(_) => Scanned::GoOn,
+        Word::String => Scanned::GoOn,
+        Word::Mark(_) => Scanned::GoOn,
     }
 }
 
@@ -352,10 +346,10 @@ fn first_bad(text: &[u8]) -> Verdict
     loop {
         let token = next_token(text, at);
         match judge(token) {
-            Step::Stop(verdict) => {
+            Scanned::Settled(verdict) => {
                 return verdict;
             }
-            Step::GoOn => {
+            Scanned::GoOn => {
                 at = token.end;
             }
         }
@@ -367,7 +361,7 @@ pub fn first_refusal(text: &[u8]) -> Verdict
     ensures answer { λ r. ⌜ r ≡ wordsVerdict (now (text .entry)) ⌝ }
     ensures numbers { λ r. ⌜ verdictNumbers r ≡ wordsNumbers (now (text .entry)) ⌝ }
 {
-    if text.len() > TEXT_LIMIT {
+    if text.len() > basics::TEXT_LIMIT {
         return refuse(1, 0);
     }
     first_bad(text)

@@ -2,8 +2,8 @@
 use mathlib.Core.List.{List, [], _∷_}
 use Prim.Native.Nat.{ℕ}
 use Rattle.chars.specs.Ascii.{bytes}
-use Rattle.components.specs.declared.FieldAt.{FieldAt}
-use Rattle.components.specs.declared.FieldType.{FieldType}
+use Rattle.fields.specs.declared.FieldAt.{FieldAt}
+use Rattle.fields.specs.declared.FieldType.{FieldType}
 use Rattle.lines.specs.declared.Sink.{Sink}
 use Rattle.lines.specs.Text.{decimal, accessWord, readWord, writeWord, resetText, line, bitsText, valueLines}
 use Rattle.lines.specs.Sinks.{Pours}

@@ -6,8 +6,8 @@ use native.Mathlib.Omega.{arith}
 use native.Mathlib.Nat.{mod-lt}
 use borrow.Author.Tests.{ne-eqb, lt-ltb, le-ltb}
 use Rattle.chars.specs.Ascii.{bytes}
-use Rattle.properties.specs.declared.Given.{Given}
-use Rattle.properties.specs.declared.Given.the-variants.{Nothing, Number}
+use Rattle.basics.specs.declared.Given.{Given}
+use Rattle.basics.specs.declared.Given.the-variants.{Nothing, Number}
 use Rattle.lines.specs.declared.Sink.{Sink}
 use Rattle.lines.specs.Text.{digitByte, digits, hex, accessWord, readWord, onOneWord, onZeroWord, writeWord, resetText}
 use Rattle.lines.specs.Sinks.{Pours}

@@ -4,15 +4,15 @@ use Prim.Native.Nat.{ℕ, zero, suc, _+_, _-_, _/_, _%_}
 use Prim.Native.Char.{code}
 use lib.Dec.{eqb, ltb}
 use Rattle.chars.specs.Ascii.{bytes}
-use Rattle.chars.specs.Choice.{if_then_else_}
-use Rattle.settings.specs.Codes.{accessCode, readCode, writeCode}
-use Rattle.settings.specs.declared.Access.the-variants as access
-use Rattle.settings.specs.declared.ReadEffect.the-variants as onread
-use Rattle.settings.specs.declared.WriteEffect.the-variants as onwrite
-use Rattle.properties.specs.declared.Given.{Given}
-use Rattle.properties.specs.declared.Given.the-variants.{Nothing, Number}
-use Rattle.components.specs.declared.FieldAt.{FieldAt}
-use Rattle.components.specs.declared.FieldType.{FieldType}
+use Rattle.basics.specs.Choice.{if_then_else_}
+use Rattle.fields.specs.Codes.{accessCode, readCode, writeCode}
+use Rattle.fields.specs.declared.AccessRight.the-variants as access
+use Rattle.fields.specs.declared.ReadEffect.the-variants as onread
+use Rattle.fields.specs.declared.WriteEffect.the-variants as onwrite
+use Rattle.basics.specs.declared.Given.{Given}
+use Rattle.basics.specs.declared.Given.the-variants.{Nothing, Number}
+use Rattle.fields.specs.declared.FieldAt.{FieldAt}
+use Rattle.fields.specs.declared.FieldType.{FieldType}
 
 -- "Hex is lower case without leading zeros": a number's digits, at most `left` and one more of them
 unfoldable pub digitByte : ℕ → ℕ

@@ -1,8 +1,8 @@
 // Bytes poured into an output as far as there is room: numbers, words and lines of a listing.
-use components::FieldAt;
-use components::FieldType;
-use components::Offset;
-use properties::Given;
+use basics::Given;
+use fields::FieldAt;
+use fields::FieldType;
+use fields::Offset;
 ghost use mathlib.Core.Path.{_≡_};
 ghost use mathlib.Core.List.{[], _∷_};
 ghost use Prim.Native.Nat.{_≤_, _<_};

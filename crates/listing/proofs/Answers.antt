@@ -8,7 +8,7 @@ use lib.Dec.{leb, ltb}
 use lib.ListN.{length, set, drop}
 use lib.Seq.{sets, sets-eq}
 use borrow.Author.Tests.{leb-true, leb-false, le-leb, lt-leb, ltb-true, ltb-false, not-true, not-false}
-use Rattle.chars.specs.Choice.{if_then_else_}
+use Rattle.basics.specs.Choice.{if_then_else_}
 use Rattle.lines.specs.declared.Sink.{Sink}
 use Rattle.lines.specs.Sinks.{behind, poured, withByte, filled, Pours}
 use Rattle.rows.specs.Rows.{Tables}

@@ -3,8 +3,9 @@ use mathlib.Core.Path.{_≡_, subst}
 use mathlib.Core.List.{List, _++_}
 use Prim.Native.Nat.{ℕ, _+_, _-_, _*_}
 use borrow.Author.Tests.{eq-eqb, ne-eqb}
+use Rattle.basics.specs.Limits.{registerRowWidth, nameWidth, pathRowWidth}
 use Rattle.chars.specs.Ascii.{bytes}
-use Rattle.components.specs.declared.FieldAt.{FieldAt}
+use Rattle.fields.specs.declared.FieldAt.{FieldAt}
 use Rattle.lines.specs.declared.Sink.{Sink}
 use Rattle.lines.specs.Text.{decimal, hex, line, bitsText, valueLines}
 use Rattle.lines.specs.Sinks.{Pours}
@@ -39,14 +40,14 @@ module _ {room : ℕ} {a b c : List ℕ} {s r q : Sink} where
 
   module _ {row : RegisterRow} where
     pub head-pours : {d k : List ℕ} {u v : Sink} (registers paths : List ℕ) (i : ℕ) → row ≡ registerRow registers i
-        → Pours room a b s (line (bytes "reg=") (nameAt paths 0 ++ pathText (stepsFrom registers paths (i * 14 + 6) (i * 288 + 32) (row .depth)))) r
+        → Pours room a b s (line (bytes "reg=") (nameAt paths 0 ++ pathText (stepsFrom registers paths (i * registerRowWidth + 6) (i * pathRowWidth + nameWidth) (row .depth)))) r
         → Pours room b c r (line (bytes "at=") (hex (row .address .0))) q → Pours room c d q (line (bytes "width=") (decimal (row .width))) u
         → Pours room d k u (line (bytes "access=") (decimal (row .access))) v
         → Pours room a k s (headLines (nameAt paths 0) (pathIn registers paths i) (registerRow registers i .address) (record { width = registerRow registers i .width; access = registerRow registers i .access })) v
     unfolding headLines
     head-pours {d} {k} {u} {v} registers paths i e p1 p2 p3 p4 =
         subst
-        (λ (x : RegisterRow). Pours room a k s (headLines (nameAt paths 0) (stepsFrom registers paths (i * 14 + 6) (i * 288 + 32) (x .depth)) (x .address) (record { width = x .width; access = x .access })) v)
+        (λ (x : RegisterRow). Pours room a k s (headLines (nameAt paths 0) (stepsFrom registers paths (i * registerRowWidth + 6) (i * pathRowWidth + nameWidth) (x .depth)) (x .address) (record { width = x .width; access = x .access })) v)
         e
         (pours-then p1 (pours-then p2 (pours-then p3 p4)))
 

@@ -4,7 +4,8 @@ use mathlib.Core.List.{List, [], _∷_}
 use Prim.Native.Nat.{ℕ, suc, _+_, _-_, _*_, _<_, _≤_}
 use native.Mathlib.Omega.{arith}
 use borrow.Author.Tests.{eq-eqb, ne-eqb}
-use Rattle.table.specs.Cells.{cellOf}
+use Rattle.basics.specs.Slices.{cellOf}
+use Rattle.basics.specs.Limits.{nameWidth}
 use Rattle.lines.specs.declared.Sink.{Sink}
 use Rattle.lines.specs.Sinks.{Pours}
 use Rattle.lines.proofs.Pouring.{Pouring, pouring-start, pouring-on, pouring-end}
@@ -38,22 +39,22 @@ module _ (n : ℕ) where
 module _ {room : ℕ} {before : List ℕ} {start : Sink} where
   -- a name in a cell
   module _ (t : List ℕ) (at : ℕ) where
-    pub name-start : Pouring room before before start (nameAt t at) start (nameFrom t (at + 0) (32 - 0))
-    name-start = pouring-start (ap (λ (i : ℕ). nameFrom t i 32) (at-start at))
+    pub name-start : Pouring room before before start (nameAt t at) start (nameFrom t (at + 0) (nameWidth - 0))
+    name-start = pouring-start (ap (λ (i : ℕ). nameFrom t i nameWidth) (at-start at))
 
-    module _ (k : ℕ) {x out : List ℕ} {s : Sink} (p : Pouring room before out start x s (nameFrom t (at + k) (32 - k))) where
-      pub name-end : 32 ≤ k → Pours room before out start x s
+    module _ (k : ℕ) {x out : List ℕ} {s : Sink} (p : Pouring room before out start x s (nameFrom t (at + k) (nameWidth - k))) where
+      pub name-end : nameWidth ≤ k → Pours room before out start x s
       unfolding nameFrom
-      name-end h = pouring-end (rw (left-none 32 k h) at p)
+      name-end h = pouring-end (rw (left-none nameWidth k h) at p)
 
-      module _ {b : ℕ} (h : k < 32) (e : b ≡ cellOf t (at + k)) where
+      module _ {b : ℕ} (h : k < nameWidth) (e : b ≡ cellOf t (at + k)) where
         pub name-stop : b ≡ 0 → Pours room before out start x s
         unfolding nameFrom
-        name-stop z = pouring-end (rw (left-more 32 k h, ← e, eq-eqb b 0 z) at p)
+        name-stop z = pouring-end (rw (left-more nameWidth k h, ← e, eq-eqb b 0 z) at p)
 
-        pub name-on : {o : List ℕ} {r : Sink} → (b ≡ 0 → ⊥) → Pours room out o s (b ∷ []) r → Pouring room before o start x r (nameFrom t (at + (k + 1)) (32 - (k + 1)))
+        pub name-on : {o : List ℕ} {r : Sink} → (b ≡ 0 → ⊥) → Pours room out o s (b ∷ []) r → Pouring room before o start x r (nameFrom t (at + (k + 1)) (nameWidth - (k + 1)))
         unfolding nameFrom
-        name-on z w = rw (next-at at k) (pouring-on (b ∷ []) (nameFrom t (suc (at + k)) (32 - (k + 1))) (rw (left-more 32 k h, ← e, ne-eqb b 0 z) at p) w)
+        name-on z w = rw (next-at at k) (pouring-on (b ∷ []) (nameFrom t (suc (at + k)) (nameWidth - (k + 1))) (rw (left-more nameWidth k h, ← e, ne-eqb b 0 z) at p) w)
 
   -- the steps of a path
   module _ (registers paths : List ℕ) where
@@ -68,11 +69,11 @@ module _ {room : ℕ} {before : List ℕ} {start : Sink} where
 
       pub steps-on : {o : List ℕ} {r : Sink} {code : ℕ} → k < count → code ≡ cellOf registers index
           → Pours room out o s (stepText (record { name = nameAt paths name; index = indexFrom code })) r
-          → Pouring room before o start x r (pathText (stepsFrom registers paths (index + 1) (name + 32) (count - (k + 1))))
+          → Pouring room before o start x r (pathText (stepsFrom registers paths (index + 1) (name + nameWidth) (count - (k + 1))))
       unfolding stepsFrom pathText
       steps-on {code = code} h e w =
           rw (next-k index)
-          (pouring-on (stepText (record { name = nameAt paths name; index = indexFrom code })) (pathText (stepsFrom registers paths (suc index) (name + 32) (count - (k + 1))))
+          (pouring-on (stepText (record { name = nameAt paths name; index = indexFrom code })) (pathText (stepsFrom registers paths (suc index) (name + nameWidth) (count - (k + 1))))
           (rw (left-more count k h, ← e) at p) w)
 
   -- the fields of a run
@@ -89,12 +90,12 @@ module _ {room : ℕ} {before : List ℕ} {start : Sink} where
       fields-end h = pouring-end (rw (left-none count k h) at p)
 
       pub fields-on : {o : List ℕ} {r : Sink} → k < count
-          → Pours room out o s (fieldLines (record { name = nameAt labels ((first + k) * 32); at = fieldRow fields (first + k) })) r
+          → Pours room out o s (fieldLines (record { name = nameAt labels ((first + k) * nameWidth); at = fieldRow fields (first + k) })) r
           → Pouring room before o start x r (fieldsLines (fieldsFrom fields labels (first + (k + 1)) (count - (k + 1))))
       unfolding fieldsFrom fieldsLines
       fields-on h w =
           rw (next-at first k)
-          (pouring-on (fieldLines (record { name = nameAt labels ((first + k) * 32); at = fieldRow fields (first + k) })) (fieldsLines (fieldsFrom fields labels (suc (first + k)) (count - (k + 1))))
+          (pouring-on (fieldLines (record { name = nameAt labels ((first + k) * nameWidth); at = fieldRow fields (first + k) })) (fieldsLines (fieldsFrom fields labels (suc (first + k)) (count - (k + 1))))
           (rw (left-more count k h) at p) w)
 
   -- the registers of a map

@@ -5,11 +5,11 @@ use Prim.Native.Nat.{ℕ}
 use lib.Dec.{ltb}
 use lib.ListN.{length, drop}
 use Rattle.chars.specs.Ascii.{bytes}
-use Rattle.chars.specs.Choice.{if_then_else_}
-use Rattle.properties.specs.declared.Given.{Given}
-use Rattle.properties.specs.declared.Given.the-variants.{Nothing, Number}
-use Rattle.components.specs.declared.Offset.{Offset}
-use Rattle.components.specs.declared.Register.{Register}
+use Rattle.basics.specs.Choice.{if_then_else_}
+use Rattle.basics.specs.declared.Given.{Given}
+use Rattle.basics.specs.declared.Given.the-variants.{Nothing, Number}
+use Rattle.fields.specs.declared.Offset.{Offset}
+use Rattle.fields.specs.declared.Register.{Register}
 use Rattle.lines.specs.Text.{decimal, hex, line, bitsText, valueLines}
 use Rattle.rows.specs.Rows.{Step, Field, Entry, Map, Tables}
 use Rattle.rows.specs.Lawful.{lawful}

@@ -4,6 +4,7 @@ ghost use mathlib.Core.Path.{_≡_};
 ghost use mathlib.Core.List.{_++_};
 ghost use Prim.Native.Nat.{_+_, _*_, _≤_};
 ghost use lib.ListN.{length};
+ghost use Rattle.basics.specs.Limits.{nestLimit, registerLimit, registerRowWidth, nameWidth, pathRowWidth, indexBound, sumBound};
 ghost use Rattle.chars.specs.Ascii.{bytes};
 ghost use Rattle.lines.specs.Text.{line};
 ghost use Rattle.lines.specs.Sinks.{Pours};
@@ -21,12 +22,12 @@ pub enum Listed {
 
 // Pours the name of a cell of 32 bytes.
 fn put_name(out: &mut [u8], room: usize, start: Sink, names: &[u8], at: usize) -> Sink
-    requires { ⌜ at ≤ 4294967296 ⌝ }
+    requires { ⌜ at ≤ sumBound ⌝ }
     ensures { λ r. ⌜ Pours room (now (out .entry)) (now (out .exit)) start (nameAt (now (names .entry)) at) r ⌝ }
 {
     let mut sink = start;
     let mut k = 0;
-    while k < 32 {
+    while k < basics::NAME_WIDTH {
         let byte = chars::byte_at(names, at + k);
         if byte == 0 {
             return sink;
@@ -51,7 +52,7 @@ fn put_index(out: &mut [u8], room: usize, start: Sink, index: u64) -> Sink
 
 // Pours a step of a path.
 fn put_step(out: &mut [u8], room: usize, start: Sink, paths: &[u8], name: usize, index: u64) -> Sink
-    requires { ⌜ name ≤ 4294967296 ⌝ }
+    requires { ⌜ name ≤ sumBound ⌝ }
     ensures { λ r. ⌜ Pours room (now (out .entry)) (now (out .exit)) start (stepText (record { name = nameAt (now (paths .entry)) name; index = indexFrom index })) r ⌝ }
 {
     let mut sink = lines::put_bytes(out, room, start, b".");
@@ -70,7 +71,7 @@ fn put_steps(
     name: usize,
     count: u64,
 ) -> Sink
-    requires { ⌜ (index ≤ 1048576) × (name ≤ 1048576) × (count ≤ 8) ⌝ }
+    requires { ⌜ (index ≤ indexBound) × (name ≤ indexBound) × (count ≤ nestLimit) ⌝ }
     ensures { λ r. ⌜ Pours room (now (out .entry)) (now (out .exit)) start (pathText (stepsFrom (now (registers .entry)) (now (paths .entry)) index name count)) r ⌝ }
 {
     let mut sink = start;
@@ -78,10 +79,10 @@ fn put_steps(
     let mut index_at = index;
     let mut name_at = name;
     while k < count {
-        let code = table::cell(registers, index_at);
+        let code = basics::cell(registers, index_at);
         sink = put_step(out, room, sink, paths, name_at, code);
         index_at += 1;
-        name_at += rows::NAME_ROW;
+        name_at += basics::NAME_WIDTH;
         k += 1;
     }
     sink
@@ -95,7 +96,7 @@ fn put_name_line(
     names: &[u8],
     at: usize,
 ) -> Sink
-    requires { ⌜ at ≤ 4294967296 ⌝ }
+    requires { ⌜ at ≤ sumBound ⌝ }
     ensures { λ r. ⌜ Pours room (now (out .entry)) (now (out .exit)) start (line (now (key .entry)) (nameAt (now (names .entry)) at)) r ⌝ }
 {
     let mut sink = lines::put_bytes(out, room, start, key);
@@ -111,12 +112,12 @@ fn put_field_lines(
     labels: &[u8],
     j: usize,
 ) -> Sink
-    requires { ⌜ j ≤ 1048576 ⌝ }
-    ensures { λ r. ⌜ Pours room (now (out .entry)) (now (out .exit)) start (fieldLines (record { name = nameAt (now (labels .entry)) (j * 32); at = fieldRow (now (fields .entry)) j })) r ⌝ }
+    requires { ⌜ j ≤ indexBound ⌝ }
+    ensures { λ r. ⌜ Pours room (now (out .entry)) (now (out .exit)) start (fieldLines (record { name = nameAt (now (labels .entry)) (j * nameWidth); at = fieldRow (now (fields .entry)) j })) r ⌝ }
 {
     let field = rows::field_row(fields, j);
     let values = field.values;
-    let mut sink = put_name_line(out, room, start, b"field=", labels, j * rows::NAME_ROW);
+    let mut sink = put_name_line(out, room, start, b"field=", labels, j * basics::NAME_WIDTH);
     sink = lines::put_bits_line(out, room, sink, field);
     lines::put_value_lines(out, room, sink, values)
 }
@@ -131,7 +132,7 @@ fn put_fields(
     first: usize,
     count: usize,
 ) -> Sink
-    requires { ⌜ first + count ≤ 1048576 ⌝ }
+    requires { ⌜ first + count ≤ indexBound ⌝ }
     ensures { λ r. ⌜ Pours room (now (out .entry)) (now (out .exit)) start (fieldsLines (fieldsFrom (now (fields .entry)) (now (labels .entry)) first count)) r ⌝ }
 {
     let mut sink = start;
@@ -152,13 +153,13 @@ fn put_path_line(
     i: usize,
     depth: u64,
 ) -> Sink
-    requires { ⌜ (i ≤ 1024) × (depth ≤ 8) ⌝ }
-    ensures { λ r. ⌜ Pours room (now (out .entry)) (now (out .exit)) start (line (bytes "reg=") (nameAt (now (paths .entry)) 0 ++ pathText (stepsFrom (now (registers .entry)) (now (paths .entry)) (i * 14 + 6) (i * 288 + 32) depth))) r ⌝ }
+    requires { ⌜ (i ≤ registerLimit) × (depth ≤ nestLimit) ⌝ }
+    ensures { λ r. ⌜ Pours room (now (out .entry)) (now (out .exit)) start (line (bytes "reg=") (nameAt (now (paths .entry)) 0 ++ pathText (stepsFrom (now (registers .entry)) (now (paths .entry)) (i * registerRowWidth + 6) (i * pathRowWidth + nameWidth) depth))) r ⌝ }
 {
     let mut sink = lines::put_bytes(out, room, start, b"reg=");
     sink = put_name(out, room, sink, paths, 0);
-    let index = i * rows::REGISTER_ROW + 6;
-    let name = i * rows::PATH_ROW + rows::NAME_ROW;
+    let index = i * basics::REGISTER_ROW_WIDTH + 6;
+    let name = i * basics::PATH_ROW_WIDTH + basics::NAME_WIDTH;
     sink = put_steps(out, room, sink, registers, paths, index, name, depth);
     lines::put_line_end(out, room, sink)
 }
@@ -172,7 +173,7 @@ fn put_head_lines(
     paths: &[u8],
     i: usize,
 ) -> Sink
-    requires { ⌜ (i ≤ 1024) × (registerRow (now registers) i .depth ≤ 8) ⌝ }
+    requires { ⌜ (i ≤ registerLimit) × (registerRow (now registers) i .depth ≤ nestLimit) ⌝ }
     ensures { λ r. ⌜ Pours room (now (out .entry)) (now (out .exit)) start (headLines (nameAt (now (paths .entry)) 0) (pathIn (now (registers .entry)) (now (paths .entry)) i) (registerRow (now (registers .entry)) i .address) (record { width = registerRow (now (registers .entry)) i .width; access = registerRow (now (registers .entry)) i .access })) r ⌝ }
 {
     let row = rows::register_row(registers, i);
@@ -193,7 +194,7 @@ fn put_entry(
     labels: &[u8],
     i: usize,
 ) -> Sink
-    requires { ⌜ (i ≤ 1024) × Bounded (now registers) i ⌝ }
+    requires { ⌜ (i ≤ registerLimit) × Bounded (now registers) i ⌝ }
     ensures { λ r. ⌜ Pours room (now (out .entry)) (now (out .exit)) start (entryLines (nameAt (now (paths .entry)) 0) (entryIn (tables (now (registers .entry)) (now (paths .entry)) (now (fields .entry)) (now (labels .entry))) i)) r ⌝ }
 {
     let row = rows::register_row(registers, i);
@@ -223,7 +224,7 @@ fn put_map(
     ensures { λ r. ⌜ Pours room (now (out .entry)) (now (out .exit)) start (listingOf (rowsIn (tables (now (registers .entry)) (now (paths .entry)) (now (fields .entry)) (now (labels .entry))))) r ⌝ }
 {
     let mut sink = put_name_line(out, room, start, b"map=", paths, 0);
-    let count = registers.len() / rows::REGISTER_ROW;
+    let count = registers.len() / basics::REGISTER_ROW_WIDTH;
     let mut i = 0;
     while i < count {
         sink = put_entry(out, room, sink, registers, paths, fields, labels, i);

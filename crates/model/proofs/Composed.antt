@@ -8,7 +8,7 @@ use native.Mathlib.Omega.{arith}
 use lib.ListN.{length}
 use lib.Dec.{eqb}
 use borrow.Author.Tests.{eqb-true, eq-eqb}
-use Rattle.chars.specs.Choice.{if_then_else_}
+use Rattle.basics.specs.Choice.{if_then_else_}
 use Rattle.actions.specs.declared.Action.{Action}
 use Rattle.actions.specs.declared.Action.the-variants.{Kept, Cleared, Set, Inverted}
 use Rattle.actions.specs.Actions.{followedBy}
@@ -46,37 +46,37 @@ both-kept t Inverted p e = absurd (p refl)
 module _ (x : Access) (f i : ℕ) where
   -- where each view of a number keeps the bit, nothing is done to it
   pub composed-kept : (cs : List View) (t : Action)
-      → ((k : ℕ) → k < length cs → viewIn cs k .slot ≡ f → bitAction x (viewIn cs k) i ≡ Kept) → actionFrom x cs t f i ≡ t
+      → ((k : ℕ) → k < length cs → viewIn cs k .index ≡ f → bitAction x (viewIn cs k) i ≡ Kept) → actionFrom x cs t f i ≡ t
   unfolding actionFrom
   composed-kept [] t h = refl
   composed-kept (c ∷ cs) t h =
-      composed-kept cs (if eqb (c .slot) f then followedBy t (bitAction x c i) else t) (λ k p e. h (suc k) (suc-le-suc p) e)
-      ∙ keeps (eqb (c .slot) f) t (bitAction x c i) (λ e. h 0 (suc-le-suc zero-le) (eqb-true (c .slot) f e))
+      composed-kept cs (if eqb (c .index) f then followedBy t (bitAction x c i) else t) (λ k p e. h (suc k) (suc-le-suc p) e)
+      ∙ keeps (eqb (c .index) f) t (bitAction x c i) (λ e. h 0 (suc-le-suc zero-le) (eqb-true (c .index) f e))
 
   -- where all but one keep it, that one's action is done
-  pub composed-sole : (cs : List View) (t : Action) (k : ℕ) → k < length cs → viewIn cs k .slot ≡ f
-      → ((j : ℕ) → j < length cs → viewIn cs j .slot ≡ f → (j ≡ k → ⊥) → bitAction x (viewIn cs j) i ≡ Kept)
+  pub composed-sole : (cs : List View) (t : Action) (k : ℕ) → k < length cs → viewIn cs k .index ≡ f
+      → ((j : ℕ) → j < length cs → viewIn cs j .index ≡ f → (j ≡ k → ⊥) → bitAction x (viewIn cs j) i ≡ Kept)
       → actionFrom x cs t f i ≡ followedBy t (bitAction x (viewIn cs k) i)
   unfolding actionFrom
   composed-sole [] t k p e h = absurd (not-suc-le-zero p)
   composed-sole (c ∷ cs) t zero p e h =
-      composed-kept cs (if eqb (c .slot) f then followedBy t (bitAction x c i) else t)
+      composed-kept cs (if eqb (c .index) f then followedBy t (bitAction x c i) else t)
       (λ j q r. h (suc j) (suc-le-suc q) r (λ z. omega arith))
-      ∙ ap (λ (b : Bool). if b then followedBy t (bitAction x c i) else t) (eq-eqb (c .slot) f e)
+      ∙ ap (λ (b : Bool). if b then followedBy t (bitAction x c i) else t) (eq-eqb (c .index) f e)
   composed-sole (c ∷ cs) t (suc k) p e h =
-      composed-sole cs (if eqb (c .slot) f then followedBy t (bitAction x c i) else t) k (le-of-suc-le-suc p) e
+      composed-sole cs (if eqb (c .index) f then followedBy t (bitAction x c i) else t) k (le-of-suc-le-suc p) e
       (λ j q r n. h (suc j) (suc-le-suc q) r (λ z. n (omega arith)))
       ∙ ap (λ (a : Action). followedBy a (bitAction x (viewIn cs k) i))
-      (keeps (eqb (c .slot) f) t (bitAction x c i) (λ r. h 0 (suc-le-suc zero-le) (eqb-true (c .slot) f r) (λ z. omega arith)))
+      (keeps (eqb (c .index) f) t (bitAction x c i) (λ r. h 0 (suc-le-suc zero-le) (eqb-true (c .index) f r) (λ z. omega arith)))
 
   -- where none inverts it, it is not inverted
   pub composed-calm : (cs : List View) (t : Action) → (t ≡ Inverted → ⊥)
-      → ((k : ℕ) → k < length cs → viewIn cs k .slot ≡ f → bitAction x (viewIn cs k) i ≡ Inverted → ⊥) → actionFrom x cs t f i ≡ Inverted → ⊥
+      → ((k : ℕ) → k < length cs → viewIn cs k .index ≡ f → bitAction x (viewIn cs k) i ≡ Inverted → ⊥) → actionFrom x cs t f i ≡ Inverted → ⊥
   unfolding actionFrom
   composed-calm [] t p h e = p e
   composed-calm (c ∷ cs) t p h e =
-      composed-calm cs (if eqb (c .slot) f then followedBy t (bitAction x c i) else t)
-      (calm (eqb (c .slot) f) t (bitAction x c i) p (λ r. h 0 (suc-le-suc zero-le) (eqb-true (c .slot) f r)))
+      composed-calm cs (if eqb (c .index) f then followedBy t (bitAction x c i) else t)
+      (calm (eqb (c .index) f) t (bitAction x c i) p (λ r. h 0 (suc-le-suc zero-le) (eqb-true (c .index) f r)))
       (λ k q r. h (suc k) (suc-le-suc q) r) e
 
   -- what was kept at the end was kept at the start
@@ -85,7 +85,7 @@ module _ (x : Access) (f i : ℕ) where
   unfolding actionFrom
   kept-start [] t h e = e
   kept-start (c ∷ cs) t h e =
-      by (eqb (c .slot) f) (kept-start cs (if eqb (c .slot) f then followedBy t (bitAction x c i) else t) (λ k q. h (suc k) (suc-le-suc q)) e)
+      by (eqb (c .index) f) (kept-start cs (if eqb (c .index) f then followedBy t (bitAction x c i) else t) (λ k q. h (suc k) (suc-le-suc q)) e)
     where
       by : (b : Bool) → (if b then followedBy t (bitAction x c i) else t) ≡ Kept → t ≡ Kept
       by true r = both-kept t (bitAction x c i) (h 0 (suc-le-suc zero-le)) r .first
@@ -94,12 +94,12 @@ module _ (x : Access) (f i : ℕ) where
   -- and where none inverts it and it is kept, each keeps it
   pub kept-each : (cs : List View) (t : Action)
       → ((k : ℕ) → k < length cs → bitAction x (viewIn cs k) i ≡ Inverted → ⊥) → actionFrom x cs t f i ≡ Kept
-      → (k : ℕ) → k < length cs → viewIn cs k .slot ≡ f → bitAction x (viewIn cs k) i ≡ Kept
+      → (k : ℕ) → k < length cs → viewIn cs k .index ≡ f → bitAction x (viewIn cs k) i ≡ Kept
   unfolding actionFrom
   kept-each [] t h e k p r = absurd (not-suc-le-zero p)
   kept-each (c ∷ cs) t h e zero p r =
       both-kept t (bitAction x c i) (h 0 (suc-le-suc zero-le))
-      (sym (ap (λ (b : Bool). if b then followedBy t (bitAction x c i) else t) (eq-eqb (c .slot) f r))
-      ∙ kept-start cs (if eqb (c .slot) f then followedBy t (bitAction x c i) else t) (λ k q. h (suc k) (suc-le-suc q)) e) .second
+      (sym (ap (λ (b : Bool). if b then followedBy t (bitAction x c i) else t) (eq-eqb (c .index) f r))
+      ∙ kept-start cs (if eqb (c .index) f then followedBy t (bitAction x c i) else t) (λ k q. h (suc k) (suc-le-suc q)) e) .second
   kept-each (c ∷ cs) t h e (suc k) p r =
-      kept-each cs (if eqb (c .slot) f then followedBy t (bitAction x c i) else t) (λ j q. h (suc j) (suc-le-suc q)) e k (le-of-suc-le-suc p) r
+      kept-each cs (if eqb (c .index) f then followedBy t (bitAction x c i) else t) (λ j q. h (suc j) (suc-le-suc q)) e k (le-of-suc-le-suc p) r

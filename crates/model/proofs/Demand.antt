@@ -5,7 +5,7 @@ use mathlib.Core.List.{List, [], _∷_, _++_}
 use Prim.Native.Nat.{ℕ, suc, _+_, _^_, _<_, zero-le, suc-le-suc}
 use lib.ListN.{length, getD, set, drop}
 use lib.Dec.{eqb, leb, ltb}
-use Rattle.chars.specs.Choice.{if_then_else_}
+use Rattle.basics.specs.Choice.{if_then_else_}
 use Rattle.chars.proofs.Laws.{and-false}
 use Rattle.bits.specs.Bits.{bit}
 use Rattle.bits.proofs.BitLaws.{number-ext, number-bit}
@@ -16,7 +16,7 @@ use Rattle.actions.proofs.ActionLaws.{kept-followed, followed-assoc}
 use Rattle.model.specs.declared.View.{View}
 use Rattle.model.specs.declared.Access.{Access}
 use Rattle.model.specs.declared.Access.the-variants.{Read, Write}
-use Rattle.components.specs.Fields.{isWritable}
+use Rattle.fields.specs.Fields.{isWritable}
 use Rattle.model.specs.Model.{Device, size, fits, Words, Fitting, addressOf, widthOf, reaches, partLow, placeOf, wordBit, bitAction, acted, viewAfter, stepped, answered, after, bitsOf, viewIn}
 use Rattle.model.specs.Lists.{actionFrom, action, tableFrom, table, run, Stored}
 use Rattle.model.specs.Suited.{SuitedView, Suited}
@@ -48,13 +48,13 @@ number-acted x c v h false e =
     (λ i k. ap (λ (t : Action). apply t (bit v i)) (sym (unreached x c i e)))
 
 view-under : (m : List ℕ) (x : Access) (c : View) (s : List ℕ) → SuitedView m c → fits m s ≡ true
-    → viewAfter x c s ≡ under m (only (c .slot) (bitAction x c)) s
+    → viewAfter x c s ≡ under m (only (c .index) (bitAction x c)) s
 view-under m x c s p h =
-    ap (set s (c .slot))
-    (number-acted x c (getD s (c .slot) 0) (subst (λ (n : ℕ). getD s (c .slot) 0 < 2 ^ n) (p .same) (fits-at m s h (c .slot) (p .row)))
+    ap (set s (c .index))
+    (number-acted x c (getD s (c .index) 0) (subst (λ (n : ℕ). getD s (c .index) 0 < 2 ^ n) (p .same) (fits-at m s h (c .index) (p .row)))
     (reaches (addressOf x) (widthOf x) c) refl
-    ∙ ap (λ (n : ℕ). acted n (bitAction x c) (getD s (c .slot) 0)) (sym (p .same)))
-    ∙ set-under m (c .slot) (bitAction x c) s h (p .row)
+    ∙ ap (λ (n : ℕ). acted n (bitAction x c) (getD s (c .index) 0)) (sym (p .same)))
+    ∙ set-under m (c .index) (bitAction x c) s h (p .row)
 
 -- ---- one access
 
@@ -73,10 +73,10 @@ unfolding stepped actionFrom
 stepped-under m x [] p u s h = refl
 stepped-under m x (c ∷ cs) p u s h =
     ap (stepped x cs)
-    (view-under m x c (under m u s) (p 0 (suc-le-suc zero-le)) (fits-under m u s h) ∙ under-under m u (only (c .slot) (bitAction x c)) s)
-    ∙ stepped-under m x cs (λ k q. p (suc k) (suc-le-suc q)) (λ f i. followedBy (u f i) (only (c .slot) (bitAction x c) f i)) s h
+    (view-under m x c (under m u s) (p 0 (suc-le-suc zero-le)) (fits-under m u s h) ∙ under-under m u (only (c .index) (bitAction x c)) s)
+    ∙ stepped-under m x cs (λ k q. p (suc k) (suc-le-suc q)) (λ f i. followedBy (u f i) (only (c .index) (bitAction x c) f i)) s h
     ∙ ap (λ (t : ℕ → ℕ → Action). under m t s)
-    (fun-ext (λ f. fun-ext (λ i. ap (λ (t : Action). actionFrom x cs t f i) (followed-if (eqb (c .slot) f) (u f i) (bitAction x c i)))))
+    (fun-ext (λ f. fun-ext (λ i. ap (λ (t : Action). actionFrom x cs t f i) (followed-if (eqb (c .index) f) (u f i) (bitAction x c i)))))
 
 chosen : (m : List ℕ) (s : List ℕ) → fits m s ≡ true → (b : Bool) (t : ℕ → ℕ → Action) (l : List ℕ) → l ≡ under m t s
     → (if b then l else s) ≡ under m (λ f i. if b then t f i else Kept) s

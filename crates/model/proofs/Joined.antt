@@ -5,7 +5,7 @@ use mathlib.Core.List.{List, [], _∷_, _++_}
 use Prim.Native.Nat.{ℕ}
 use lib.Bits.{bitOr}
 use lib.ListN.{length, getD, length-set}
-use Rattle.components.specs.declared.Offset.{Offset}
+use Rattle.fields.specs.declared.Offset.{Offset}
 use Rattle.bits.specs.Bits.{number}
 use Rattle.bits.proofs.BitLaws.{or-number}
 use Rattle.model.specs.declared.View.{View}
@@ -18,7 +18,7 @@ use Rattle.model.specs.Repeats.{allBelow, repeatsBit, repeats}
 pub length-stepped : (x : Access) (cs : List View) (s : List ℕ) → length (stepped x cs s) ≡ length s
 unfolding stepped
 length-stepped x [] s = refl
-length-stepped x (c ∷ cs) s = length-stepped x cs (viewAfter x c s) ∙ length-set s (c .slot) (numberAfter x c (getD s (c .slot) 0))
+length-stepped x (c ∷ cs) s = length-stepped x cs (viewAfter x c s) ∙ length-set s (c .index) (numberAfter x c (getD s (c .index) 0))
 
 -- the views of one register behind those of the registers before it
 pub stepped-join : (x : Access) (cs es : List View) (s : List ℕ) → stepped x (cs ++ es) s ≡ stepped x es (stepped x cs s)
@@ -26,7 +26,7 @@ unfolding stepped
 stepped-join x [] es s = refl
 stepped-join x (c ∷ cs) es s = stepped-join x cs es (viewAfter x c s)
 
--- one view more, as a loop adds it: `store[slot] = number_after(access, view, store[slot])`
+-- one view more, as a loop adds it: `store[index] = number_after(access, view, store[index])`
 pub stepped-more : (x : Access) (cs : List View) (c : View) (s : List ℕ) → stepped x (cs ++ (c ∷ [])) s ≡ viewAfter x c (stepped x cs s)
 unfolding stepped
 stepped-more x cs c s = stepped-join x cs (c ∷ []) s
@@ -41,8 +41,8 @@ gives-join : (cs es : List View) (a : Offset) (w : ℕ) (b : ℕ → ℕ → Boo
 unfolding gives
 gives-join [] es a w b j = refl
 gives-join (c ∷ cs) es a w b j =
-    ap (λ (r : Bool). fieldGives a w c (b (c .slot)) j || r) (gives-join cs es a w b j)
-    ∙ or-assoc (fieldGives a w c (b (c .slot)) j) (gives cs a w b j) (gives es a w b j)
+    ap (λ (r : Bool). fieldGives a w c (b (c .index)) j || r) (gives-join cs es a w b j)
+    ∙ or-assoc (fieldGives a w c (b (c .index)) j) (gives cs a w b j) (gives es a w b j)
 
 pub word-join : (cs es : List View) (a : Offset) (w : ℕ) (b : ℕ → ℕ → Bool)
     → bitOr (number w (gives cs a w b)) (number w (gives es a w b)) ≡ number w (gives (cs ++ es) a w b)
@@ -55,10 +55,10 @@ or-none false = refl
 
 -- one view more
 pub word-more : (cs : List View) (c : View) (a : Offset) (w : ℕ) (b : ℕ → ℕ → Bool)
-    → bitOr (number w (gives cs a w b)) (number w (fieldGives a w c (b (c .slot)))) ≡ number w (gives (cs ++ (c ∷ [])) a w b)
+    → bitOr (number w (gives cs a w b)) (number w (fieldGives a w c (b (c .index)))) ≡ number w (gives (cs ++ (c ∷ [])) a w b)
 unfolding gives
 word-more cs c a w b =
-    ap (λ (f : ℕ → Bool). bitOr (number w (gives cs a w b)) (number w f)) (fun-ext (λ j. sym (or-none (fieldGives a w c (b (c .slot)) j))))
+    ap (λ (f : ℕ → Bool). bitOr (number w (gives cs a w b)) (number w f)) (fun-ext (λ j. sym (or-none (fieldGives a w c (b (c .index)) j))))
     ∙ word-join cs (c ∷ []) a w b
 
 -- ---- the criterion

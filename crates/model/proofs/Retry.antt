@@ -9,13 +9,13 @@ use native.Mathlib.Omega.{arith}
 use lib.ListN.{length, getD, replicate}
 use lib.Dec.{eqb, leb, ltb}
 use borrow.Author.Tests.{eqb-true, eqb-false, eq-eqb}
-use Rattle.chars.specs.Choice.{if_then_else_}
+use Rattle.basics.specs.Choice.{if_then_else_}
 use Rattle.chars.proofs.Laws.{and-left, and-right, and-both, or-left, or-right}
-use Rattle.settings.specs.Codes.{readCode, writeCode}
-use Rattle.settings.specs.declared.ReadEffect.the-variants as onread
-use Rattle.settings.specs.declared.WriteEffect.the-variants as onwrite
-use Rattle.components.specs.declared.FieldType.{FieldType}
-use Rattle.components.specs.declared.Offset.{Offset}
+use Rattle.fields.specs.Codes.{readCode, writeCode}
+use Rattle.fields.specs.declared.ReadEffect.the-variants as onread
+use Rattle.fields.specs.declared.WriteEffect.the-variants as onwrite
+use Rattle.fields.specs.declared.FieldType.{FieldType}
+use Rattle.fields.specs.declared.Offset.{Offset}
 use Rattle.bits.specs.Bits.{bit}
 use Rattle.bits.proofs.BitLaws.{bit-number}
 use Rattle.actions.specs.declared.Action.{Action}
@@ -25,7 +25,7 @@ use Rattle.actions.proofs.ActionLaws.{again-or-inverts, kept-followed, write-in
 use Rattle.model.specs.declared.View.{View}
 use Rattle.model.specs.declared.Access.{Access}
 use Rattle.model.specs.declared.Access.the-variants.{Read, Write}
-use Rattle.components.specs.Fields.{isReadable, isWritable}
+use Rattle.fields.specs.Fields.{isReadable, isWritable}
 use Rattle.model.specs.Model.{Device, size, fits, Fitting, reaches, partLow, placeOf, reachesBit, writesBit, wordBit, bitAction, refusal, answered, after, gives, bitsOf, wordFrom, answerWith, answerFrom, viewIn}
 use Rattle.model.specs.Lists.{actionFrom, action, Stored, Shown}
 use Rattle.model.specs.Repeats.{changedByReading, invertedBy, readsBit, repeatsBit, allBelow, repeats, Alone}
@@ -73,7 +73,7 @@ pub repeats-each : (cs : List View) (x : Access) → (repeats cs x ≡ true) ↔
 repeats-each cs x = (repeats-at cs x, repeats-made cs x)
 
 -- a stored bit is a bit of each view of its number
-pub stored-shown : (d : Device) → Suited d → (f i : ℕ) → Stored (d .sizes) f i → (k : ℕ) → k < length (d .views) → viewIn (d .views) k .slot ≡ f
+pub stored-shown : (d : Device) → Suited d → (f i : ℕ) → Stored (d .sizes) f i → (k : ℕ) → k < length (d .views) → viewIn (d .views) k .index ≡ f
     → Shown (d .views) k i
 stored-shown d ok f i p k h e =
     record { row = h; place = subst (λ (n : ℕ). i < n) (ap (λ (g : ℕ). getD (d .sizes) g 0) (sym e) ∙ ok .each k h .same) (p .place) }
@@ -135,11 +135,11 @@ module _ (d : Device) (ok : Suited d) (a : Offset) (w x : ℕ) (yes : answered d
 
   -- a bit that one view writes has that view's action
   write-sole : Alone d a w → (k i : ℕ) → Shown (d .views) k i → writesBit a w (viewIn (d .views) k) i ≡ true
-      → action d (Write a w x) (viewIn (d .views) k .slot) i ≡ writeAction (viewIn (d .views) k .field .values .onwrite) (wordBit a x (viewIn (d .views) k) i)
+      → action d (Write a w x) (viewIn (d .views) k .index) i ≡ writeAction (viewIn (d .views) k .field .values .onwrite) (wordBit a x (viewIn (d .views) k) i)
   write-sole l k i p e =
       let c = viewIn (d .views) k in
-      write-does (c .slot) i
-      ∙ composed-sole (Write a w x) (c .slot) i (d .views) Kept k (p .row) refl
+      write-does (c .index) i
+      ∙ composed-sole (Write a w x) (c .index) i (d .views) Kept k (p .row) refl
       (λ j q r n. ap (λ (b : Bool). if b then writeAction (viewIn (d .views) j .field .values .onwrite) (wordBit a x (viewIn (d .views) j) i) else Kept)
       (fails (writesBit a w (viewIn (d .views) j) i) (λ z. n (l .alone j k i q p r z e))))
       ∙ kept-followed (bitAction (Write a w x) c i)
@@ -167,7 +167,7 @@ module _ (d : Device) (ok : Suited d) (a : Offset) (w x : ℕ) (yes : answered d
           (λ k i p. let c = viewIn (d .views) k in let b = wordBit a x c i in
           not-both (writesBit a w c i) (invertedBy (c .field .values) b)
           (λ g. fails (invertedBy (c .field .values) b)
-          (λ v. inverts-none d ok (Write a w x) s h e (c .slot) i (shown-stored d ok k i p)
+          (λ v. inverts-none d ok (Write a w x) s h e (c .index) i (shown-stored d ok k i p)
           (write-sole l k i p g ∙ by-inverted (c .field .values) b v))))
 
   -- the same over every fitting store
@@ -269,23 +269,23 @@ module _ (d : Device) (ok : Suited d) (a : Offset) (w : ℕ) (step : List ℕ �
   stable k b j h =
       let s = make b in
       gives-cong (d .views) a w (λ f i. apply (does-to f i) (b f i)) (bitsOf (step s)) j h
-      (λ n i p e. let f = viewIn (d .views) n .slot in let q = shown-stored d ok n i p in
+      (λ n i p e. let f = viewIn (d .views) n .index in let q = shown-stored d ok n i p in
       ap (apply (does-to f i)) (sym (made b f i q)) ∙ sym (does s (good b) f i q))
       ∙ sym (bit-number w (gives (d .views) a w (bitsOf (step s))) j h)
       ∙ ap (λ (n : ℕ). bit n j) (k s (good b))
       ∙ bit-number w (gives (d .views) a w (bitsOf s)) j h
-      ∙ gives-cong (d .views) a w (bitsOf s) b j h (λ n i p e. made b (viewIn (d .views) n .slot) i (shown-stored d ok n i p))
+      ∙ gives-cong (d .views) a w (bitsOf s) b j h (λ n i p e. made b (viewIn (d .views) n .index) i (shown-stored d ok n i p))
 
   -- a bit that is read is 0 where the word's bits are
   none-at : (b : ℕ → ℕ → Bool) (k i : ℕ) → Shown (d .views) k i → readsBit a w (viewIn (d .views) k) i ≡ true
-      → gives (d .views) a w b (wordIndex a (viewIn (d .views) k) i) ≡ false → b (viewIn (d .views) k .slot) i ≡ false
+      → gives (d .views) a w b (wordIndex a (viewIn (d .views) k) i) ≡ false → b (viewIn (d .views) k .index) i ≡ false
   none-at b k i p e q =
       let c = viewIn (d .views) k in
-      sym (field-at a w c (b (c .slot)) i (p .place) e) ∙ gives-each (d .views) a w b (wordIndex a c i) k (p .row) q
+      sym (field-at a w c (b (c .index)) i (p .place) e) ∙ gives-each (d .views) a w b (wordIndex a c i) k (p .row) q
 
   -- a bit that is read is left 0 if it is
   zero-left : Same → (k i : ℕ) → Shown (d .views) k i → readsBit a w (viewIn (d .views) k) i ≡ true
-      → apply (does-to (viewIn (d .views) k .slot) i) false ≡ false
+      → apply (does-to (viewIn (d .views) k .index) i) false ≡ false
   zero-left m k i p e =
       let j = wordIndex a (viewIn (d .views) k) i in
       none-at (λ g n. apply (does-to g n) false) k i p e
@@ -293,7 +293,7 @@ module _ (d : Device) (ok : Suited d) (a : Offset) (w : ℕ) (step : List ℕ �
 
   -- and not cleared
   clears-none : Same → (k i : ℕ) → Shown (d .views) k i → readsBit a w (viewIn (d .views) k) i ≡ true
-      → isCleared (does-to (viewIn (d .views) k .slot) i) ≡ false
+      → isCleared (does-to (viewIn (d .views) k .index) i) ≡ false
   clears-none m k i p e =
       let j = wordIndex a (viewIn (d .views) k) i in
       let h = word-inside a w (viewIn (d .views) k) i (p .place) e in
@@ -301,7 +301,7 @@ module _ (d : Device) (ok : Suited d) (a : Offset) (w : ℕ) (step : List ℕ �
       none-at b k i p e
       (sym (stable m b j h)
       ∙ gives-cong (d .views) a w (λ g n. apply (does-to g n) (b g n)) (λ g n. false) j h
-      (λ g n r u. all-cleared (does-to (viewIn (d .views) g .slot) n) (zero-left m g n r u))
+      (λ g n r u. all-cleared (does-to (viewIn (d .views) g .index) n) (zero-left m g n r u))
       ∙ gives-none (d .views) a w j)
 
   pub read-again :
@@ -311,7 +311,7 @@ module _ (d : Device) (ok : Suited d) (a : Offset) (w : ℕ) (step : List ℕ �
       back : repeats (d .views) (Read a w) ≡ true → Same
       back r s h =
           word-cong d a w (bitsOf (step s)) (bitsOf s)
-          (λ k i p e. let f = viewIn (d .views) k .slot in let q = shown-stored d ok k i p in
+          (λ k i p e. let f = viewIn (d .views) k .index in let q = shown-stored d ok k i p in
           does s h f i q ∙ ap (λ (t : Action). apply t (bitsOf s f i)) (read-keeps-all d ok a w r f i q))
 
       forth : Same → repeats (d .views) (Read a w) ≡ true
@@ -321,8 +321,8 @@ module _ (d : Device) (ok : Suited d) (a : Offset) (w : ℕ) (step : List ℕ �
           not-both (readsBit a w c i) (changedByReading (c .field .values))
           (λ e. kept-read (c .field .values)
           (sym (ap (λ (g : Bool). if g then readAction (c .field .values .onread) else Kept) (and-right (isReadable (c .field .values)) (reachesBit a w c i) e))
-          ∙ kept-each (Read a w) (c .slot) i (d .views) Kept (λ n q. read-calm a w (viewIn (d .views) n) i)
-          (kept-only (does-to (c .slot) i) (zero-left m k i p e) (clears-none m k i p e))
+          ∙ kept-each (Read a w) (c .index) i (d .views) Kept (λ n q. read-calm a w (viewIn (d .views) n) i)
+          (kept-only (does-to (c .index) i) (zero-left m k i p e) (clears-none m k i p e))
           k (p .row) refl)))
 
 module _ (d : Device) (ok : Suited d) (a : Offset) (w : ℕ) (yes : answered d (Read a w) ≡ true) where
@@ -350,7 +350,7 @@ module _ (d : Device) (ok : Suited d) (a : Offset) (w : ℕ) (yes : answered d (
 -- two stores alike in the bits that a read reaches give it the same answer
 pub same-answer : (d : Device) (a : Offset) (w : ℕ) (s t : List ℕ)
     → ((k i : ℕ) → Shown (d .views) k i → reachesBit a w (viewIn (d .views) k) i ≡ true
-    → bitsOf s (viewIn (d .views) k .slot) i ≡ bitsOf t (viewIn (d .views) k .slot) i)
+    → bitsOf s (viewIn (d .views) k .index) i ≡ bitsOf t (viewIn (d .views) k .index) i)
     → answerFrom d (Read a w) (bitsOf s) ≡ answerFrom d (Read a w) (bitsOf t)
 same-answer d a w s t h =
     ap (answerWith (refusal d (Read a w)))
@@ -361,7 +361,7 @@ same-answer d a w s t h =
 
 -- where no number is written through two registers at once
 pub alone-registers : (d : Device) (a : Offset) (w : ℕ)
-    → ((j k : ℕ) → j < length (d .views) → k < length (d .views) → viewIn (d .views) j .slot ≡ viewIn (d .views) k .slot
+    → ((j k : ℕ) → j < length (d .views) → k < length (d .views) → viewIn (d .views) j .index ≡ viewIn (d .views) k .index
     → isWritable (viewIn (d .views) j .field .values) ≡ true → isWritable (viewIn (d .views) k .field .values) ≡ true
     → reaches a w (viewIn (d .views) j) ≡ true → reaches a w (viewIn (d .views) k) ≡ true → j ≡ k)
     → Alone d a w
@@ -380,5 +380,5 @@ alone-registers d a w h =
         and-left g l (and-left (g && l) n (and-right (isWritable (c .field .values)) (g && l && n) u))
 
 -- where each view has a number of its own, as before request 4
-pub alone-own : (d : Device) (a : Offset) (w : ℕ) → ((k : ℕ) → k < length (d .views) → viewIn (d .views) k .slot ≡ k) → Alone d a w
+pub alone-own : (d : Device) (a : Offset) (w : ℕ) → ((k : ℕ) → k < length (d .views) → viewIn (d .views) k .index ≡ k) → Alone d a w
 alone-own d a w h = record { alone = λ j k i p q e u v. sym (h j p) ∙ e ∙ h k (q .row) }

@@ -8,7 +8,7 @@ use native.Mathlib.Omega.{arith}
 use lib.ListN.{length, getD, set, drop, replicate}
 use lib.Dec.{eqb, eqb·zero-suc, eqb·suc-zero, eqb·suc-suc}
 use lib.Pow.{pow-mono}
-use Rattle.chars.specs.Choice.{if_then_else_}
+use Rattle.basics.specs.Choice.{if_then_else_}
 use Rattle.bits.specs.Bits.{bit}
 use Rattle.bits.proofs.BitLaws.{bit-number, number-ext, number-bit, number-lt}
 use Rattle.actions.specs.declared.Action.{Action}

@@ -9,12 +9,12 @@ use lib.ListN.{length}
 use lib.Dec.{leb, ltb}
 use borrow.Author.Tests.{leb-true, ltb-true, lt-ltb, le-leb}
 use Rattle.chars.proofs.Laws.{and-left, and-right, and-both, and-false, or-left, or-right}
-use Rattle.components.specs.declared.Offset.{Offset}
+use Rattle.fields.specs.declared.Offset.{Offset}
 use Rattle.bits.proofs.BitLaws.{number-ext}
 use Rattle.model.specs.declared.View.{View}
 use Rattle.model.specs.declared.Access.{Access}
 use Rattle.model.specs.declared.Access.the-variants.{Read, Write}
-use Rattle.components.specs.Fields.{isReadable}
+use Rattle.fields.specs.Fields.{isReadable}
 use Rattle.model.specs.Model.{Device, size, reaches, partLow, placeOf, fieldGives, gives, wordFrom, refusal, answerWith, answerFrom, viewIn}
 use Rattle.model.specs.Lists.{Stored, Shown}
 use Rattle.model.specs.Repeats.{readsBit}
@@ -67,12 +67,12 @@ field-cong a w c b d j h k =
     and-cong (seen a w c j) (b (fieldBit a c j)) (d (fieldBit a c j))
     (λ e. let p = taken a w c j h e in k (fieldBit a c j) (p .place) (p .reads))
 
-record Placed (a : Offset) (w : ℕ) (c : View) (i : ℕ) : Type 0 where
+record BitReached (a : Offset) (w : ℕ) (c : View) (i : ℕ) : Type 0 where
   inside : wordIndex a c i < w
   passes : seen a w c (wordIndex a c i) ≡ true
   back : fieldBit a c (wordIndex a c i) ≡ i
 
-placed : (a : Offset) (w : ℕ) (c : View) (i : ℕ) → i < size c → readsBit a w c i ≡ true → Placed a w c i
+placed : (a : Offset) (w : ℕ) (c : View) (i : ℕ) → i < size c → readsBit a w c i ≡ true → BitReached a w c i
 placed a w c i h e =
     let p = partLow a c .0 in
     let low = c .field .low .0 in
@@ -107,23 +107,23 @@ field-at a w c b i h e =
 -- ---- the bits that a map gives
 
 pub gives-cong : (cs : List View) (a : Offset) (w : ℕ) (b d : ℕ → ℕ → Bool) (j : ℕ) → j < w
-    → ((k i : ℕ) → Shown cs k i → readsBit a w (viewIn cs k) i ≡ true → b (viewIn cs k .slot) i ≡ d (viewIn cs k .slot) i)
+    → ((k i : ℕ) → Shown cs k i → readsBit a w (viewIn cs k) i ≡ true → b (viewIn cs k .index) i ≡ d (viewIn cs k .index) i)
     → gives cs a w b j ≡ gives cs a w d j
 unfolding gives
 gives-cong [] a w b d j h k = refl
 gives-cong (c ∷ cs) a w b d j h k =
     ap₂ (λ (x y : Bool). x || y)
-    (field-cong a w c (b (c .slot)) (d (c .slot)) j h (λ i p e. k 0 i (record { row = suc-le-suc zero-le; place = p }) e))
+    (field-cong a w c (b (c .index)) (d (c .index)) j h (λ i p e. k 0 i (record { row = suc-le-suc zero-le; place = p }) e))
     (gives-cong cs a w b d j h (λ f i p e. k (suc f) i (record { row = suc-le-suc (p .row); place = p .place }) e))
 
 -- where the map gives 0, so does each view
 pub gives-each : (cs : List View) (a : Offset) (w : ℕ) (b : ℕ → ℕ → Bool) (j k : ℕ) → k < length cs
-    → gives cs a w b j ≡ false → fieldGives a w (viewIn cs k) (b (viewIn cs k .slot)) j ≡ false
+    → gives cs a w b j ≡ false → fieldGives a w (viewIn cs k) (b (viewIn cs k .index)) j ≡ false
 unfolding gives
 gives-each [] a w b j k h e = absurd (not-suc-le-zero h)
-gives-each (c ∷ cs) a w b j zero h e = or-left (fieldGives a w c (b (c .slot)) j) (gives cs a w b j) e
+gives-each (c ∷ cs) a w b j zero h e = or-left (fieldGives a w c (b (c .index)) j) (gives cs a w b j) e
 gives-each (c ∷ cs) a w b j (suc k) h e =
-    gives-each cs a w b j k (le-of-suc-le-suc h) (or-right (fieldGives a w c (b (c .slot)) j) (gives cs a w b j) e)
+    gives-each cs a w b j k (le-of-suc-le-suc h) (or-right (fieldGives a w c (b (c .index)) j) (gives cs a w b j) e)
 
 pub gives-none : (cs : List View) (a : Offset) (w j : ℕ) → gives cs a w (λ f i. false) j ≡ false
 unfolding gives
@@ -134,12 +134,12 @@ gives-none (c ∷ cs) a w j = ap₂ (λ (x y : Bool). x || y) (and-false (seen a
 
 -- the word depends only on the bits that are read
 pub word-cong : (d : Device) (a : Offset) (w : ℕ) (b e : ℕ → ℕ → Bool)
-    → ((k i : ℕ) → Shown (d .views) k i → readsBit a w (viewIn (d .views) k) i ≡ true → b (viewIn (d .views) k .slot) i ≡ e (viewIn (d .views) k .slot) i)
+    → ((k i : ℕ) → Shown (d .views) k i → readsBit a w (viewIn (d .views) k) i ≡ true → b (viewIn (d .views) k .index) i ≡ e (viewIn (d .views) k .index) i)
     → wordFrom d (Read a w) b ≡ wordFrom d (Read a w) e
 word-cong d a w b e k = number-ext w (gives (d .views) a w b) (gives (d .views) a w e) (λ j h. gives-cong (d .views) a w b e j h k)
 
 -- a bit of a view is a stored bit
-pub shown-stored : (d : Device) → Suited d → (k i : ℕ) → Shown (d .views) k i → Stored (d .sizes) (viewIn (d .views) k .slot) i
+pub shown-stored : (d : Device) → Suited d → (k i : ℕ) → Shown (d .views) k i → Stored (d .sizes) (viewIn (d .views) k .index) i
 shown-stored d ok k i p =
     let q = ok .each k (p .row) in
     record { row = q .row; place = subst (λ (n : ℕ). i < n) (sym (q .same)) (p .place) }
@@ -148,5 +148,5 @@ shown-stored d ok k i p =
 pub answer-ext : (d : Device) → Suited d → (x : Access) (b e : ℕ → ℕ → Bool) → ((f i : ℕ) → Stored (d .sizes) f i → b f i ≡ e f i)
     → answerFrom d x b ≡ answerFrom d x e
 answer-ext d ok (Read a w) b e h =
-    ap (answerWith (refusal d (Read a w))) (word-cong d a w b e (λ k i p r. h (viewIn (d .views) k .slot) i (shown-stored d ok k i p)))
+    ap (answerWith (refusal d (Read a w))) (word-cong d a w b e (λ k i p r. h (viewIn (d .views) k .index) i (shown-stored d ok k i p)))
 answer-ext d ok (Write a w v) b e h = refl

@@ -5,7 +5,7 @@ use mathlib.Core.List.{List, [], _∷_, _++_}
 use Prim.Native.Nat.{ℕ, _<_}
 use lib.Dec.{eqb}
 use lib.ListN.{length, drop, getD}
-use Rattle.chars.specs.Choice.{if_then_else_}
+use Rattle.basics.specs.Choice.{if_then_else_}
 use Rattle.actions.specs.declared.Action.{Action}
 use Rattle.actions.specs.declared.Action.the-variants.{Kept}
 use Rattle.actions.specs.Actions.{followedBy, apply}
@@ -17,7 +17,7 @@ use Rattle.model.specs.Model.{Device, size, fits, bitAction, answered, a
 -- what the views of number f do to its bit i, one after another, t being done before
 unfoldable pub actionFrom : Access → List View → Action → ℕ → ℕ → Action
 actionFrom x [] t f i = t
-actionFrom x (c ∷ cs) t f i = actionFrom x cs (if eqb (c .slot) f then followedBy t (bitAction x c i) else t) f i
+actionFrom x (c ∷ cs) t f i = actionFrom x cs (if eqb (c .index) f then followedBy t (bitAction x c i) else t) f i
 
 -- what an access does to bit i of number f: "A refused access (23 or 25) leaves it"
 abbrev pub action : Device → Access → ℕ → ℕ → Action

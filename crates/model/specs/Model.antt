@@ -7,12 +7,12 @@ use mathlib.Core.List.{List, [], _∷_}
 use Prim.Native.Nat.{ℕ, zero, suc, _+_, _*_, _-_, _/_, _%_, _^_, _<_}
 use lib.Dec.{eqb, leb, ltb}
 use lib.ListN.{length, getD, set}
-use Rattle.chars.specs.Choice.{if_then_else_}
-use Rattle.settings.specs.Settings.{isWidth}
-use Rattle.properties.specs.declared.Given.the-variants.{Nothing}
-use Rattle.components.specs.declared.BitPlace.{BitPlace}
-use Rattle.components.specs.declared.Offset.{Offset}
-use Rattle.components.specs.declared.Register.{Register}
+use Rattle.basics.specs.Choice.{if_then_else_}
+use Rattle.fields.specs.Codes.{isWidth}
+use Rattle.basics.specs.declared.Given.the-variants.{Nothing}
+use Rattle.fields.specs.declared.BitPlace.{BitPlace}
+use Rattle.fields.specs.declared.Offset.{Offset}
+use Rattle.fields.specs.declared.Register.{Register}
 use Rattle.bits.specs.Bits.{bit, number}
 use Rattle.actions.specs.declared.Action.{Action}
 use Rattle.actions.specs.declared.Action.the-variants.{Kept}
@@ -22,7 +22,7 @@ use Rattle.model.specs.declared.Access.{Access}
 use Rattle.model.specs.declared.Access.the-variants.{Read, Write}
 use Rattle.model.specs.declared.Answer.{Answer}
 use Rattle.model.specs.declared.Answer.the-variants.{Refused, Word}
-use Rattle.components.specs.Fields.{isReadable, isWritable}
+use Rattle.fields.specs.Fields.{isReadable, isWritable}
 
 pub record Device : Type 0 where
   -- how many bits each number of the store has
@@ -107,7 +107,7 @@ numberAfter x c v = if reaches (addressOf x) (widthOf x) c then acted (size c) (
 
 -- the store after one view has acted
 abbrev pub viewAfter : Access → View → List ℕ → List ℕ
-viewAfter x c s = set s (c .slot) (numberAfter x c (getD s (c .slot) 0))
+viewAfter x c s = set s (c .index) (numberAfter x c (getD s (c .index) 0))
 
 -- the store after an access that is answered: the views act one after another, in row order; where each shows a number of its own, the order
 -- does not show
@@ -144,7 +144,7 @@ fieldGives a w c b j =
 -- and from all views of the bits `b f i`, bit i of number f, which are those before any effect: "then `rclr` clears"
 unfoldable pub gives : List View → Offset → ℕ → (ℕ → ℕ → Bool) → ℕ → Bool
 gives [] a w b j = false
-gives (c ∷ cs) a w b j = fieldGives a w c (b (c .slot)) j || gives cs a w b j
+gives (c ∷ cs) a w b j = fieldGives a w c (b (c .index)) j || gives cs a w b j
 
 -- the bits of a store
 abbrev pub bitsOf : List ℕ → ℕ → ℕ → Bool
@@ -185,7 +185,7 @@ noView =
       base = record { 0 = 0 };
       register = record { width = 0; access = 0 };
       field = record { low = record { 0 = 0 }; high = record { 0 = 0 }; values = record { sw = 0; hw = 0; onread = 0; onwrite = 0; reset = Nothing } };
-      slot = 0;
+      index = 0;
     }
 
 abbrev pub viewIn : List View → ℕ → View

@@ -5,15 +5,15 @@ use mathlib.Core.List.{List, [], _∷_}
 use Prim.Native.Nat.{ℕ, zero, suc, _<_}
 use lib.Dec.{eqb}
 use lib.ListN.{length}
-use Rattle.settings.specs.Codes.{readCode, writeCode}
-use Rattle.settings.specs.declared.ReadEffect.the-variants as onread
-use Rattle.settings.specs.declared.WriteEffect.the-variants as onwrite
-use Rattle.components.specs.declared.FieldType.{FieldType}
-use Rattle.components.specs.declared.Offset.{Offset}
+use Rattle.fields.specs.Codes.{readCode, writeCode}
+use Rattle.fields.specs.declared.ReadEffect.the-variants as onread
+use Rattle.fields.specs.declared.WriteEffect.the-variants as onwrite
+use Rattle.fields.specs.declared.FieldType.{FieldType}
+use Rattle.fields.specs.declared.Offset.{Offset}
 use Rattle.model.specs.declared.View.{View}
 use Rattle.model.specs.declared.Access.{Access}
 use Rattle.model.specs.declared.Access.the-variants.{Read, Write}
-use Rattle.components.specs.Fields.{isReadable}
+use Rattle.fields.specs.Fields.{isReadable}
 use Rattle.model.specs.Model.{Device, size, reachesBit, writesBit, wordBit, viewIn}
 use Rattle.model.specs.Lists.{Shown}
 
@@ -48,5 +48,5 @@ repeats (c ∷ cs) x = allBelow (size c) (repeatsBit x c) && repeats cs x
 
 -- no bit of a number is written through two views at once; where each view shows a number of its own, as in lawful rows, it is so
 pub record Alone (d : Device) (a : Offset) (w : ℕ) : Type 0 where
-  pub alone : (j k i : ℕ) → j < length (d .views) → Shown (d .views) k i → viewIn (d .views) j .slot ≡ viewIn (d .views) k .slot
+  pub alone : (j k i : ℕ) → j < length (d .views) → Shown (d .views) k i → viewIn (d .views) j .index ≡ viewIn (d .views) k .index
       → writesBit a w (viewIn (d .views) j) i ≡ true → writesBit a w (viewIn (d .views) k) i ≡ true → j ≡ k

@@ -5,15 +5,15 @@ use mathlib.Core.List.{List}
 use Prim.Native.Nat.{ℕ, _<_, _≤_}
 use lib.ListN.{length, getD}
 use Rattle.model.specs.declared.View.{View}
-use Rattle.components.specs.Fields.{isReadable}
+use Rattle.fields.specs.Fields.{isReadable}
 use Rattle.model.specs.Model.{Device, size, viewIn}
 use Rattle.model.specs.Repeats.{changedByReading}
 
 -- of a view of a store with so many bits in each number; lawful rows keep it
 pub record SuitedView (m : List ℕ) (c : View) : Type 0 where
   -- the number is there, and has the field's bits
-  pub row : c .slot < length m
-  pub same : getD m (c .slot) 0 ≡ size c
+  pub row : c .index < length m
+  pub same : getD m (c .index) 0 ≡ size c
   -- 12: "`onread` without reading"
   pub usable : changedByReading (c .field .values) ≡ true → isReadable (c .field .values) ≡ true
 

@@ -1,23 +1,21 @@
 -- Laws of the definitions, in the form that the proofs use.
-use mathlib.Core.Bool.{Bool, true, false, _||_, _&&_}
-use mathlib.Core.Path.{_≡_, refl, sym, ap, _∙_}
+use mathlib.Core.Bool.{Bool, true, false}
+use mathlib.Core.Path.{_≡_, refl, sym, _∙_}
 use mathlib.Core.List.{List, [], _∷_}
 use lib.Pow.{shl-exact}
-use Prim.Native.Nat.{ℕ, suc, _+_, _-_, _*_, _/_, _%_, _^_, _<_, _≤_}
-use Prim.Native.Char.{code}
+use Prim.Native.Nat.{ℕ, _+_, _-_, _*_, _/_, _%_, _^_, _<_, _≤_}
 use native.Mathlib.Nat.{pow-le-pow-right, mul-le-mul-left, le-div-iff-mul-le, div-lt-iff-lt-mul}
 use native.Mathlib.Omega.{arith}
-use lib.Dec.{eqb, leb, ltb}
+use lib.Dec.{eqb, ltb}
 use lib.ListN.{length, drop, getD, take, drop-of-length-le, List·getD-eq-default}
 use types.Run.{OneOf, miss}
 use denote.Enum.Declared.{tagOf}
 use borrow.Author.Tests.{ltb-false, eq-eqb, ne-eqb, lt-ltb, le-ltb, le-leb, lt-leb}
-use Rattle.chars.specs.Choice.{if_then_else_}
-use Rattle.chars.specs.Ascii.{isWithin, isDigit, isSpacedDigit, inClass}
+use Rattle.chars.specs.Ascii.{isWithin, isDigit, isSpacedDigit}
 use Rattle.chars.specs.Run.{run, runEnd, every}
 use Rattle.chars.specs.declared.Radix.{Radix}
-use Rattle.chars.specs.declared.Radix.the-variants.{Binary, Decimal, Hex}
-use Rattle.chars.proofs.Laws.{drop-next, either, within-low, within-high}
+use Rattle.chars.specs.declared.Radix.the-variants.{Decimal, Hex}
+use Rattle.chars.proofs.Laws.{drop-next, either, within-high}
 use Rattle.numbers.specs.declared.Numeral.{Numeral}
 use Rattle.numbers.proofs.Numeral.{the-type}
 use Rattle.numbers.specs.declared.Numeral.the-variants.{Fits, Malformed, TooWide}

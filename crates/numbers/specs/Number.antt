@@ -5,7 +5,7 @@ use Prim.Native.Nat.{ℕ, _+_, _-_, _*_, _^_}
 use Prim.Native.Char.{code}
 use lib.Dec.{eqb, leb, ltb}
 use lib.ListN.{length, take, drop, getD}
-use Rattle.chars.specs.Choice.{if_then_else_}
+use Rattle.basics.specs.Choice.{if_then_else_}
 use Rattle.chars.specs.Ascii.{isWithin, isDigit, isSpacedDigit}
 use Rattle.chars.specs.Run.{run, every}
 use Rattle.chars.specs.declared.Radix.{Radix}

@@ -2,7 +2,7 @@
 use chars::Class;
 use chars::Radix;
 ghost use mathlib.Core.Path.{_≡_};
-ghost use Prim.Native.Nat.{_≤_, _<_};
+ghost use Prim.Native.Nat.{_≤_};
 ghost use lib.ListN.{drop};
 ghost use Rattle.numbers.specs.Number.{digitValue, nextValue, value, fitting, baseOf, radixOf, plainDigits, spacedDigits, widthOf, sizedNumber, sizedAt, hexPrefixed, hexNumber, numberOf};
 

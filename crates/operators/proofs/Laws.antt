@@ -6,7 +6,7 @@ use native.Mathlib.Omega.{arith}
 use lib.Pow.{pow-pos}
 use borrow.Author.Tests.{lt-ltb, le-ltb, le-leb, lt-leb, eq-eqb, ne-eqb}
 use Rattle.operators.specs.declared.Operator.the-variants as operator
-use Rattle.operators.specs.declared.Outcome.the-variants.{Is, Out}
+use Rattle.operators.specs.declared.Computed.the-variants.{Is, Out}
 use Rattle.operators.specs.Operators.{within, resultOf}
 
 within-is : (n : ℕ) → n < 2 ^ 64 → Is n ≡ within n

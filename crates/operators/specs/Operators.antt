@@ -5,8 +5,8 @@ use lib.Dec.{leb, ltb, eqb}
 use lib.Bits.{bitAnd, bitOr, bitXor}
 use Rattle.operators.specs.declared.Operator.{Operator}
 use Rattle.operators.specs.declared.Operator.the-variants as operator
-use Rattle.operators.specs.declared.Outcome.{Outcome}
-use Rattle.operators.specs.declared.Outcome.the-variants.{Is, Out}
+use Rattle.operators.specs.declared.Computed.{Computed}
+use Rattle.operators.specs.declared.Computed.the-variants.{Is, Out}
 
 -- "Verilog's precedence": the rows from the tightest on, `* / %`; `+ -`; `<< >>`; `< <= > >=`; `== !=`; `&`; `^`; `|`
 abbrev pub rowOf : Operator → ℕ
@@ -32,12 +32,12 @@ abbrev pub rowCount : ℕ
 rowCount = 8
 
 -- what is given where a test holds; else there is no result
-abbrev pub onlyIf : Bool → Outcome → Outcome
+abbrev pub onlyIf : Bool → Computed → Computed
 onlyIf true x = x
 onlyIf false x = Out
 
 -- "whole numbers of 0 to 2^64-1"
-abbrev pub within : ℕ → Outcome
+abbrev pub within : ℕ → Computed
 within n = onlyIf (ltb n (2 ^ 64)) (Is n)
 
 -- "a shift of 64 or more"
@@ -45,12 +45,12 @@ abbrev pub shiftLimit : ℕ
 shiftLimit = 64
 
 -- "Comparisons give 1 or 0"
-abbrev pub truth : Bool → Outcome
+abbrev pub truth : Bool → Computed
 truth true = Is 1
 truth false = Is 0
 
 -- "a result outside that range, a shift of 64 or more, or a zero divisor" is refused
-unfoldable pub resultOf : Operator → ℕ → ℕ → Outcome
+unfoldable pub resultOf : Operator → ℕ → ℕ → Computed
 resultOf operator.Times a b = within (a * b)
 resultOf operator.Over a b = onlyIf (not (eqb b 0)) (Is (a / b))
 resultOf operator.Modulo a b = onlyIf (not (eqb b 0)) (Is (a % b))

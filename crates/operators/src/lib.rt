@@ -27,7 +27,7 @@ pub enum Operator {
 }
 
 // A result, or that there is none from 0 to 2^64 - 1.
-pub enum Outcome {
+pub enum Computed {
     Is(u64),
     Out,
 }
@@ -56,86 +56,86 @@ pub fn row_of(operator: Operator) -> usize
     }
 }
 
-fn times(a: u64, b: u64) -> Outcome
+fn times(a: u64, b: u64) -> Computed
     ensures { λ r. ⌜ r ≡ resultOf Operator.Times a b ⌝ }
 {
     if a == 0 {
-        return Outcome::Is(0);
+        return Computed::Is(0);
     }
     if b > MAX / a {
-        return Outcome::Out;
+        return Computed::Out;
     }
-    Outcome::Is(a * b)
+    Computed::Is(a * b)
 }
 
-fn over(a: u64, b: u64) -> Outcome
+fn over(a: u64, b: u64) -> Computed
     ensures { λ r. ⌜ r ≡ resultOf Operator.Over a b ⌝ }
 {
     if b == 0 {
-        return Outcome::Out;
+        return Computed::Out;
     }
-    Outcome::Is(a / b)
+    Computed::Is(a / b)
 }
 
-fn modulo(a: u64, b: u64) -> Outcome
+fn modulo(a: u64, b: u64) -> Computed
     ensures { λ r. ⌜ r ≡ resultOf Operator.Modulo a b ⌝ }
 {
     if b == 0 {
-        return Outcome::Out;
+        return Computed::Out;
     }
-    Outcome::Is(a % b)
+    Computed::Is(a % b)
 }
 
-fn plus(a: u64, b: u64) -> Outcome
+fn plus(a: u64, b: u64) -> Computed
     ensures { λ r. ⌜ r ≡ resultOf Operator.Plus a b ⌝ }
 {
     if b > MAX - a {
-        return Outcome::Out;
+        return Computed::Out;
     }
-    Outcome::Is(a + b)
+    Computed::Is(a + b)
 }
 
-fn minus(a: u64, b: u64) -> Outcome
+fn minus(a: u64, b: u64) -> Computed
     ensures { λ r. ⌜ r ≡ resultOf Operator.Minus a b ⌝ }
 {
     if b > a {
-        return Outcome::Out;
+        return Computed::Out;
     }
-    Outcome::Is(a - b)
+    Computed::Is(a - b)
 }
 
-fn shift_left(a: u64, b: u64) -> Outcome
+fn shift_left(a: u64, b: u64) -> Computed
     ensures { λ r. ⌜ r ≡ resultOf Operator.ShiftLeft a b ⌝ }
 {
     if b >= SHIFT_LIMIT {
-        return Outcome::Out;
+        return Computed::Out;
     }
     if a > MAX >> b {
-        return Outcome::Out;
+        return Computed::Out;
     }
-    Outcome::Is(a << b)
+    Computed::Is(a << b)
 }
 
-fn shift_right(a: u64, b: u64) -> Outcome
+fn shift_right(a: u64, b: u64) -> Computed
     ensures { λ r. ⌜ r ≡ resultOf Operator.ShiftRight a b ⌝ }
 {
     if b >= SHIFT_LIMIT {
-        return Outcome::Out;
+        return Computed::Out;
     }
-    Outcome::Is(a >> b)
+    Computed::Is(a >> b)
 }
 
-fn truth_of(holds: bool) -> Outcome
+fn truth_of(holds: bool) -> Computed
     ensures { λ r. ⌜ r ≡ truth holds ⌝ }
 {
     if holds {
-        return Outcome::Is(1);
+        return Computed::Is(1);
     }
-    Outcome::Is(0)
+    Computed::Is(0)
 }
 
 // What an operator gives between two numbers.
-pub fn apply(operator: Operator, a: u64, b: u64) -> Outcome
+pub fn apply(operator: Operator, a: u64, b: u64) -> Computed
     ensures { λ r. ⌜ r ≡ resultOf operator a b ⌝ }
 {
     match operator {
@@ -152,8 +152,8 @@ pub fn apply(operator: Operator, a: u64, b: u64) -> Outcome
         Operator::AtLeast => truth_of(a >= b),
         Operator::Same => truth_of(a == b),
         Operator::Unlike => truth_of(a != b),
-        Operator::And => Outcome::Is(a & b),
-        Operator::Xor => Outcome::Is(a ^ b),
-        Operator::Or => Outcome::Is(a | b),
+        Operator::And => Computed::Is(a & b),
+        Operator::Xor => Computed::Is(a ^ b),
+        Operator::Or => Computed::Is(a | b),
     }
 }

@@ -8,26 +8,28 @@ use lib.Dec.{eqb}
 use lib.ListN.{length}
 use borrow.Author.Tests.{not-true, not-false}
 use Rattle.parts.specs.declared.Instance.{Instance}
-use Rattle.settings.specs.Codes.{accessCode}
-use Rattle.settings.specs.declared.Access.the-variants as access
-use Rattle.properties.specs.declared.Given.{Given}
+use Rattle.fields.specs.Codes.{accessCode}
+use Rattle.fields.specs.declared.AccessRight.the-variants as access
+use Rattle.basics.specs.Limits.{definitionLimit}
+use Rattle.basics.specs.declared.Given.{Given}
 use Rattle.components.specs.Fields.{fieldAt}
-use Rattle.components.specs.declared.BitPlace.{BitPlace}
-use Rattle.components.specs.declared.FieldType.{FieldType}
-use Rattle.components.specs.declared.FieldAt.{FieldAt}
-use Rattle.components.specs.declared.Register.{Register}
+use Rattle.fields.specs.declared.BitPlace.{BitPlace}
+use Rattle.fields.specs.declared.FieldType.{FieldType}
+use Rattle.fields.specs.declared.FieldAt.{FieldAt}
+use Rattle.fields.specs.declared.Register.{Register}
 use Rattle.components.specs.declared.Component.{Component}
 use Rattle.components.specs.declared.Component.the-variants as component
-use Rattle.table.specs.Cells.{cellOf, filedAt, componentIn, firstIn, countIn, rowIn}
-use Rattle.table.specs.Definitions.{Child, Definition, definitionOf}
-use Rattle.table.specs.Relation.{Block}
-use Rattle.closing.specs.Registers.{placement, bitAbove, withPlaced, fieldsFrom, firstBit}
-use Rattle.sensible.specs.Sensible.{ChildrenFit}
-use Rattle.shapes.specs.declared.Extent.{Extent}
-use Rattle.shapes.specs.Ready.{known, Ready}
-use Rattle.shapes.proofs.Rows.{RowFits}
-use Rattle.shapes.proofs.Laws.{ready-is-row, ready-row, ready-block, ready-count, Ahead, ahead-of, none-left}
-use Rattle.map.specs.Whole.{everyAccess, hasAccess, isPair}
+use Rattle.basics.specs.Slices.{cellOf}
+use Rattle.cells.specs.Cells.{filedAt, componentIn, firstIn, countIn, rowIn}
+use Rattle.cells.specs.Definitions.{Child, Definition, definitionOf}
+use Rattle.cells.specs.Relation.{Block}
+use Rattle.closing_rules.specs.Registers.{placement, bitAbove, withPlaced, fieldsFrom, firstBit}
+use Rattle.definition_laws.specs.Sensible.{ChildrenFit}
+use Rattle.sizes.specs.declared.Extent.{Extent}
+use Rattle.sizes.specs.Ready.{known, Ready}
+use Rattle.sizes.proofs.Rows.{RowFits}
+use Rattle.sizes.proofs.Laws.{ready-is-row, ready-row, ready-block, ready-count, Ahead, ahead-of, none-left}
+use Rattle.map_rules.specs.Whole.{everyAccess, hasAccess, isPair}
 use Rattle.overlaps.specs.Charted.{hasIn}
 
 -- a component's access
@@ -99,7 +101,7 @@ module _ (text t : List ℕ) (row a : ℕ) {to i : ℕ} (s : Asking text t row a
       let z : l .rest ≡ [] = none-left h (l .until) (l .block) in
       sym (every-none a (known text t e) (l .next)) ∙ ap (λ (cs : List Child). everyAccess a (fieldsFrom (known text t e) (l .next) cs)) (sym z) ∙ l .same
 
-  module _ {x k : ℕ} {c : Component} {r : Bool} (h : i < to) (p : x ≡ cellOf t i) (q : (k ≡ rowIn x) × (k < 256)) (g : c ≡ componentIn t k) (b : r ≡ hasIn a c) where
+  module _ {x k : ℕ} {c : Component} {r : Bool} (h : i < to) (p : x ≡ cellOf t i) (q : (k ≡ rowIn x) × (k < definitionLimit)) (g : c ≡ componentIn t k) (b : r ≡ hasIn a c) where
     module _ (e : Extent) (ready : Ready text t e) (low : row < e .rows) where
       left : Left text t e row a to i
       left = s .each e ready low

@@ -6,14 +6,14 @@ use Prim.Native.Nat.{ℕ, suc, _+_, _<_, _≤_}
 use native.Mathlib.Numerals.{add-one}
 use lib.ListN.{length, take, drop, drop-of-length-le}
 use lib.Seq.{take-suc, drop-cons}
-use Rattle.chars.specs.Choice.{if_then_else_}
-use Rattle.suffixes.specs.declared.Fault.{Fault}
-use Rattle.suffixes.specs.declared.Fault.the-variants.{Sound, Broken}
-use Rattle.table.specs.Definitions.{Definition}
+use Rattle.basics.specs.Choice.{if_then_else_}
+use Rattle.basics.specs.declared.Fault.{Fault}
+use Rattle.basics.specs.declared.Fault.the-variants.{None, Refused}
+use Rattle.cells.specs.Definitions.{Definition}
 use Rattle.layout.specs.declared.Shape.{Shape}
-use Rattle.map.specs.Visits.{Visit}
-use Rattle.map.specs.Whole.{isRegisterVisit, overlapRegisters, overlapsOne, overlapping, registersAmong}
-use Rattle.walk.specs.Walks.{visitAt, noVisit}
+use Rattle.map_rules.specs.Visits.{Visit}
+use Rattle.map_rules.specs.Whole.{isRegisterVisit, overlapRegisters, overlapsOne, overlapping, registersAmong}
+use Rattle.map_walk.specs.Walks.{visitAt, noVisit}
 
 -- the registers among some elements, with one more before them or behind them
 module _ (table : List Definition) (u : Visit) (us : List Visit) where
@@ -78,15 +78,15 @@ one-among table shapes v (u ∷ us) = by (isRegisterVisit table u) refl (one-amo
 -- elements one after another
 module _ (table : List Definition) (shapes : List Shape) (earlier : List Visit) (v : Visit) (vs : List Visit) where
   next-register : isRegisterVisit table v ≡ true
-      → overlapping table shapes earlier (v ∷ vs) ≡ (if overlapsOne table shapes v earlier then Broken 21 (v .name .start) else overlapping table shapes (earlier ++ (v ∷ [])) vs)
+      → overlapping table shapes earlier (v ∷ vs) ≡ (if overlapsOne table shapes v earlier then Refused 21 (v .name .start) else overlapping table shapes (earlier ++ (v ∷ [])) vs)
   unfolding overlapping
-  next-register y = ap (λ (b : Bool). if (b && overlapsOne table shapes v earlier) then Broken 21 (v .name .start) else overlapping table shapes (earlier ++ (v ∷ [])) vs) y
+  next-register y = ap (λ (b : Bool). if (b && overlapsOne table shapes v earlier) then Refused 21 (v .name .start) else overlapping table shapes (earlier ++ (v ∷ [])) vs) y
 
   next-other : isRegisterVisit table v ≡ false → overlapping table shapes earlier (v ∷ vs) ≡ overlapping table shapes (earlier ++ (v ∷ [])) vs
   unfolding overlapping
-  next-other y = ap (λ (b : Bool). if (b && overlapsOne table shapes v earlier) then Broken 21 (v .name .start) else overlapping table shapes (earlier ++ (v ∷ [])) vs) y
+  next-other y = ap (λ (b : Bool). if (b && overlapsOne table shapes v earlier) then Refused 21 (v .name .start) else overlapping table shapes (earlier ++ (v ∷ [])) vs) y
 
-next-none : (table : List Definition) (shapes : List Shape) (earlier : List Visit) → overlapping table shapes earlier [] ≡ Sound
+next-none : (table : List Definition) (shapes : List Shape) (earlier : List Visit) → overlapping table shapes earlier [] ≡ None
 unfolding overlapping
 next-none table shapes earlier = refl
 
@@ -104,8 +104,8 @@ overlapping-among table shapes earlier (v ∷ vs) = by (isRegisterVisit table v)
         let k : overlapping table shapes (earlier ++ (v ∷ [])) vs ≡ overlapping table shapes (before ++ (v ∷ [])) rest =
         h ∙ ap (λ (l : List Visit). overlapping table shapes l rest) (more-register table earlier v y) in
         next-register table shapes earlier v vs y
-        ∙ ap (λ (b : Bool). if b then Broken 21 (v .name .start) else overlapping table shapes (earlier ++ (v ∷ [])) vs) (one-among table shapes v earlier)
-        ∙ ap (λ (f : Fault). if overlapsOne table shapes v before then Broken 21 (v .name .start) else f) k
+        ∙ ap (λ (b : Bool). if b then Refused 21 (v .name .start) else overlapping table shapes (earlier ++ (v ∷ [])) vs) (one-among table shapes v earlier)
+        ∙ ap (λ (f : Fault). if overlapsOne table shapes v before then Refused 21 (v .name .start) else f) k
         ∙ sym (next-register table shapes before v rest y)
         ∙ ap (overlapping table shapes before) (sym (among-register table v vs y))
     by false y h =
@@ -118,24 +118,24 @@ registers-decide table shapes vs = overlapping-among table shapes [] vs ∙ ap (
 
 -- registers from the i-th on
 module _ (table : List Definition) (shapes : List Shape) (vs : List Visit) (i : ℕ) where
-  pub from-end : length vs ≤ i → overlapping table shapes (take i vs) (drop i vs) ≡ Sound
+  pub from-end : length vs ≤ i → overlapping table shapes (take i vs) (drop i vs) ≡ None
   from-end h = ap (overlapping table shapes (take i vs)) (drop-of-length-le vs h) ∙ next-none table shapes (take i vs)
 
   module _ (h : i < length vs) (y : isRegisterVisit table (visitAt vs i) ≡ true) where
     from-here : overlapping table shapes (take i vs) (drop i vs)
-        ≡ (if overlapsOne table shapes (visitAt vs i) (take i vs) then Broken 21 (visitAt vs i .name .start) else overlapping table shapes (take (i + 1) vs) (drop (i + 1) vs))
+        ≡ (if overlapsOne table shapes (visitAt vs i) (take i vs) then Refused 21 (visitAt vs i .name .start) else overlapping table shapes (take (i + 1) vs) (drop (i + 1) vs))
     from-here =
         let v : Visit = visitAt vs i in
-        let f : Fault = Broken 21 (v .name .start) in
+        let f : Fault = Refused 21 (v .name .start) in
         let b : Bool = overlapsOne table shapes v (take i vs) in
         ap (overlapping table shapes (take i vs)) (drop-cons vs i noVisit h) ∙ next-register table shapes (take i vs) v (drop (suc i) vs) y
         ∙ ap (λ (l : List Visit). if b then f else overlapping table shapes l (drop (suc i) vs)) (sym (take-suc vs i noVisit h))
         ∙ ap (λ (n : ℕ). if b then f else overlapping table shapes (take n vs) (drop n vs)) (sym (add-one i))
 
-    pub from-hit : overlapsOne table shapes (visitAt vs i) (take i vs) ≡ true → overlapping table shapes (take i vs) (drop i vs) ≡ Broken 21 (visitAt vs i .name .start)
+    pub from-hit : overlapsOne table shapes (visitAt vs i) (take i vs) ≡ true → overlapping table shapes (take i vs) (drop i vs) ≡ Refused 21 (visitAt vs i .name .start)
     from-hit z =
-        from-here ∙ ap (λ (b : Bool). if b then Broken 21 (visitAt vs i .name .start) else overlapping table shapes (take (i + 1) vs) (drop (i + 1) vs)) z
+        from-here ∙ ap (λ (b : Bool). if b then Refused 21 (visitAt vs i .name .start) else overlapping table shapes (take (i + 1) vs) (drop (i + 1) vs)) z
 
     pub from-on : overlapsOne table shapes (visitAt vs i) (take i vs) ≡ false → overlapping table shapes (take i vs) (drop i vs) ≡ overlapping table shapes (take (i + 1) vs) (drop (i + 1) vs)
     from-on z =
-        from-here ∙ ap (λ (b : Bool). if b then Broken 21 (visitAt vs i .name .start) else overlapping table shapes (take (i + 1) vs) (drop (i + 1) vs)) z
+        from-here ∙ ap (λ (b : Bool). if b then Refused 21 (visitAt vs i .name .start) else overlapping table shapes (take (i + 1) vs) (drop (i + 1) vs)) z

@@ -9,22 +9,23 @@ use lib.Dec.{ltb}
 use lib.ListN.{length, take, drop}
 use lib.Seq.{slice-cons, slice-empty}
 use borrow.Author.Tests.{lt-ltb, le-ltb}
-use Rattle.suffixes.specs.declared.Fault.the-variants.{Sound, Broken}
-use Rattle.components.specs.declared.Offset.{Offset}
-use Rattle.table.specs.Cells.{cellOf}
-use Rattle.table.specs.Definitions.{Definition}
+use Rattle.basics.specs.Limits.{definitionLimit, nestLimit, registerLimit}
+use Rattle.basics.specs.declared.Fault.the-variants.{None, Refused}
+use Rattle.fields.specs.declared.Offset.{Offset}
+use Rattle.basics.specs.Slices.{cellOf}
+use Rattle.cells.specs.Definitions.{Definition}
 use Rattle.layout.specs.Layout.{shapeAt}
 use Rattle.layout.specs.declared.Shape.{Shape}
-use Rattle.shapes.specs.declared.Extent.{Extent}
-use Rattle.shapes.specs.Ready.{known}
-use Rattle.shapes.specs.Shapes.{shapeIn, allShapes}
-use Rattle.map.specs.Visits.{Visit}
-use Rattle.map.specs.Whole.{isRegisterVisit, isPair, isSharedLawfully, overlapRegisters, overlapsOne, overlapping}
-use Rattle.walk.specs.Runs.{stepCells}
-use Rattle.walk.specs.Walks.{LogRow, visitAt, noVisit, elementsOf, registersOf}
+use Rattle.sizes.specs.declared.Extent.{Extent}
+use Rattle.sizes.specs.Ready.{known}
+use Rattle.sizes.specs.Shapes.{shapeIn, allShapes}
+use Rattle.map_rules.specs.Visits.{Visit}
+use Rattle.map_rules.specs.Whole.{isRegisterVisit, isPair, isSharedLawfully, overlapRegisters, overlapsOne, overlapping}
+use Rattle.map_walk.specs.Runs.{trailWidth, stepCells, logWidth}
+use Rattle.map_walk.specs.Walks.{LogRow, visitAt, noVisit, elementsOf, registersOf}
 use Rattle.overlaps.specs.declared.Plot.{Plot}
 use Rattle.overlaps.specs.Charted.{Charted, plotIn, plotsOverlap, PlotFits}
-use Rattle.faithful.proofs.Lists.{all-at}
+use Rattle.basics.proofs.All.{all-at}
 use Rattle.overlaps.proofs.Visits.{padded-cell, seen-length, seen-place, register-size, register-whole, RegisterSeen, registers-seen}
 use Rattle.overlaps.proofs.Overlaps.{one-register, one-none, registers-decide, from-end, from-hit, from-on}
 
@@ -32,13 +33,13 @@ use Rattle.overlaps.proofs.Overlaps.{one-register, one-none, registers-
 same-plot : {a b c x y z : ℕ} → a ≡ x → b ≡ y → c ≡ z → _≡_ {A = Plot} (record { row = a; address = record { 0 = b }; size = c }) (record { row = x; address = record { 0 = y }; size = z })
 same-plot p q r = rw (p, q, r)
 
-pub plot-read : (s log : List ℕ) (i : ℕ) {address row : ℕ} {shape : Shape} → address ≡ cellOf log (i * 27) → row ≡ cellOf log (i * 27 + 1) → shape ≡ shapeIn s row
+pub plot-read : (s log : List ℕ) (i : ℕ) {address row : ℕ} {shape : Shape} → address ≡ cellOf log (i * logWidth) → row ≡ cellOf log (i * logWidth + 1) → shape ≡ shapeIn s row
     → record { row = row; address = record { 0 = address }; size = shape .size } ≡ plotIn s log i
 unfolding plotIn
 plot-read s log i p q g = same-plot q p (ap (λ (z : Shape). z .size) g ∙ ap (λ (n : ℕ). shapeIn s n .size) q)
 
-pub place-read : (log : List ℕ) (i : ℕ) {depth x : ℕ} → depth ≡ cellOf log (i * 27 + 2) → x ≡ cellOf log (i * 27 + 3 * depth) → x ≡ cellOf log (i * 27 + 3 * cellOf log (i * 27 + 2))
-place-read log i p q = q ∙ ap (λ (n : ℕ). cellOf log (i * 27 + 3 * n)) p
+pub place-read : (log : List ℕ) (i : ℕ) {depth x : ℕ} → depth ≡ cellOf log (i * logWidth + 2) → x ≡ cellOf log (i * logWidth + 3 * depth) → x ≡ cellOf log (i * logWidth + 3 * cellOf log (i * logWidth + 2))
+place-read log i p q = q ∙ ap (λ (n : ℕ). cellOf log (i * logWidth + 3 * n)) p
 
 -- two registers: one behind the other, or lawfully shared, or not
 module _ (table : List Definition) (v u : Plot) where
@@ -100,13 +101,13 @@ module _ (text t s log : List ℕ) (e : Extent) (row : ℕ) (c : Charted text t 
   type-low : visitAt (registersOf text t e row) i .type < e .rows
   type-low = seen-at .seen .low
 
-  pub index-few : i ≤ 1024
+  pub index-few : i ≤ registerLimit
   index-few = omega (arith, h, c .few)
 
-  pub row-few : cellOf log (i * 27 + 1) < 256
+  pub row-few : cellOf log (i * logWidth + 1) < definitionLimit
   row-few = omega (arith, log-at .type, type-low, c .shaped .ready .few)
 
-  pub depth-few : cellOf log (i * 27 + 2) ≤ 8
+  pub depth-few : cellOf log (i * logWidth + 2) ≤ nestLimit
   depth-few = omega (arith, log-at .depth, seen-at .shallow)
 
   plot-of : PlotOf (allShapes text t e) (visitAt (registersOf text t e row) i) (plotIn s log i)
@@ -132,14 +133,14 @@ module _ (text t s log : List ℕ) (e : Extent) (row : ℕ) (c : Charted text t 
       record { row = rw (o .row) type-low; address = omega (arith, ap number (o .address), w); size = omega (arith, o .size, z) }
 
   -- its name's place is that of its path's last step
-  pub named-at : cellOf log (i * 27 + 3 * cellOf log (i * 27 + 2)) ≡ visitAt (registersOf text t e row) i .name .start
+  pub named-at : cellOf log (i * logWidth + 3 * cellOf log (i * logWidth + 2)) ≡ visitAt (registersOf text t e row) i .name .start
   named-at =
       let n : ℕ = length (visit .path) in
       let l = seen-length text t e 0 visit (seen-at .seen) in
-      let z : i * 27 + 3 * n ≡ i * 27 + 3 + 3 * (n - 1) = omega (arith, l) in
-      let k : 3 * (n - 1) < 24 = omega (arith, l, seen-at .shallow) in
-      ap (λ (m : ℕ). cellOf log (i * 27 + 3 * m)) (log-at .depth) ∙ ap (cellOf log) z ∙ log-at .steps (3 * (n - 1)) k
-      ∙ padded-cell 24 (stepCells (visit .path)) (3 * (n - 1)) k ∙ seen-place text t e 0 visit (seen-at .seen)
+      let z : i * logWidth + 3 * n ≡ i * logWidth + 3 + 3 * (n - 1) = omega (arith, l) in
+      let k : 3 * (n - 1) < trailWidth = omega (arith, l, seen-at .shallow) in
+      ap (λ (m : ℕ). cellOf log (i * logWidth + 3 * m)) (log-at .depth) ∙ ap (cellOf log) z ∙ log-at .steps (3 * (n - 1)) k
+      ∙ padded-cell trailWidth (stepCells (visit .path)) (3 * (n - 1)) k ∙ seen-place text t e 0 visit (seen-at .seen)
 
 -- a register against those before it, from the j-th on
 pub record Comparing (text t s log : List ℕ) (e : Extent) (row i : ℕ) (plot : Plot) (j : ℕ) : Type 0 where
@@ -177,10 +178,10 @@ module _ (text t s log : List ℕ) (e : Extent) (row i : ℕ) where
       earlier-low : j < length (registersOf text t e row)
       earlier-low = omega (arith, h, c .low)
 
-      pub earlier-few : j ≤ 1024
+      pub earlier-few : j ≤ registerLimit
       earlier-few = index-few text t s log e row (c .charted) j earlier-low
 
-      pub earlier-row : cellOf log (j * 27 + 1) < 256
+      pub earlier-row : cellOf log (j * logWidth + 1) < definitionLimit
       earlier-row = row-few text t s log e row (c .charted) j earlier-low
 
       module _ {other : Plot} (o : other ≡ plotIn s log j) where
@@ -226,27 +227,27 @@ module _ (text t s log : List ℕ) (e : Extent) (row count : ℕ) where
   searching-start c f = record { charted = c; all = f; same = sym (registers-decide (known text t e) (allShapes text t e) (elementsOf text t e row)) }
 
   module _ {i : ℕ} (c : Searching text t s log e row count i) where
-    pub searching-end : count ≤ i → Sound ≡ overlapping (known text t e) (allShapes text t e) [] (elementsOf text t e row)
+    pub searching-end : count ≤ i → None ≡ overlapping (known text t e) (allShapes text t e) [] (elementsOf text t e row)
     searching-end h = sym (from-end (known text t e) (allShapes text t e) (registersOf text t e row) i (omega (arith, h, c .all))) ∙ c .same
 
     module _ (h : i < count) where
       pub searching-low : i < length (registersOf text t e row)
       searching-low = omega (arith, h, c .all)
 
-      pub searching-few : i ≤ 1024
+      pub searching-few : i ≤ registerLimit
       searching-few = index-few text t s log e row (c .charted) i searching-low
 
-      pub searching-depth : cellOf log (i * 27 + 2) ≤ 8
+      pub searching-depth : cellOf log (i * logWidth + 2) ≤ nestLimit
       searching-depth = depth-few text t s log e row (c .charted) i searching-low
 
       is-register : isRegisterVisit (known text t e) (visitAt (registersOf text t e row) i) ≡ true
       is-register = seen-at text t s log e row (c .charted) i searching-low .register
 
       module _ {r : Bool} (f : r ≡ overlapsOne (known text t e) (allShapes text t e) (visitAt (registersOf text t e row) i) (take i (registersOf text t e row))) where
-        pub searching-hit : {place : ℕ} → r ≡ true → place ≡ cellOf log (i * 27 + 3 * cellOf log (i * 27 + 2))
-            → Broken 21 place ≡ overlapping (known text t e) (allShapes text t e) [] (elementsOf text t e row)
+        pub searching-hit : {place : ℕ} → r ≡ true → place ≡ cellOf log (i * logWidth + 3 * cellOf log (i * logWidth + 2))
+            → Refused 21 place ≡ overlapping (known text t e) (allShapes text t e) [] (elementsOf text t e row)
         searching-hit y p =
-            ap (Broken 21) (p ∙ named-at text t s log e row (c .charted) i searching-low)
+            ap (Refused 21) (p ∙ named-at text t s log e row (c .charted) i searching-low)
             ∙ sym (from-hit (known text t e) (allShapes text t e) (registersOf text t e row) i searching-low is-register (sym f ∙ y)) ∙ c .same
 
         pub searching-next : r ≡ false → Searching text t s log e row count (i + 1)

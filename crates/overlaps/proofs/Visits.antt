@@ -8,50 +8,49 @@ use native.Mathlib.Omega.{arith}
 use lib.Dec.{eqb, ltb}
 use lib.ListN.{length, getD}
 use borrow.Author.Tests.{eqb-true, ltb-false, not-false}
-use Rattle.chars.specs.Choice.{if_then_else_}
+use Rattle.basics.specs.Choice.{if_then_else_}
 use Rattle.chars.proofs.Laws.{either, or-left, or-right}
 use Rattle.parts.specs.declared.Name.{Name}
 use Rattle.parts.specs.declared.Array.{Array}
 use Rattle.parts.specs.declared.Array.the-variants as array
-use Rattle.settings.specs.Settings.{isWidth}
-use Rattle.suffixes.specs.Suffixes.{firstOf}
-use Rattle.suffixes.specs.declared.Fault.the-variants.{Sound}
-use Rattle.properties.specs.declared.Given.{Given}
-use Rattle.properties.specs.declared.Given.the-variants.{Nothing}
-use Rattle.components.specs.Components.{kindOf}
-use Rattle.components.specs.declared.Register.{Register}
+use Rattle.fields.specs.Codes.{isWidth}
+use Rattle.basics.specs.Judged.{firstOf}
+use Rattle.basics.specs.declared.Fault.the-variants.{None}
+use Rattle.basics.specs.declared.Given.{Given}
+use Rattle.basics.specs.declared.Given.the-variants.{Nothing}
+use Rattle.fields.specs.declared.Register.{Register}
 use Rattle.components.specs.declared.Component.{Component}
 use Rattle.components.specs.declared.Component.the-variants as component
 use Rattle.components.proofs.Laws.{first-sound, later-sound, pass-test, pass-on}
-use Rattle.table.specs.Cells.{cellOf, componentIn}
-use Rattle.table.specs.Definitions.{Child, Definition, definitionOf}
-use Rattle.table.specs.Relation.{IsEntry, Block, block-end, block-on}
+use Rattle.basics.specs.Slices.{cellOf}
+use Rattle.cells.specs.Cells.{componentIn}
+use Rattle.cells.specs.Definitions.{Child, Definition, definitionOf}
+use Rattle.cells.specs.Relation.{IsEntry, Block, block-end, block-on}
 use Rattle.rules.proofs.Instances.{length-more}
 use Rattle.rules.proofs.Closing.{getD-last}
-use Rattle.sensible.specs.Sensible.{Fits, register-fits}
-use Rattle.offsets.specs.Offsets.{cut}
-use Rattle.offsets.proofs.Laws.{cut-low}
+use Rattle.definition_laws.specs.Sensible.{ValuesFit, register-fits}
+use Rattle.capped.specs.Offsets.{cut}
+use Rattle.capped.proofs.Laws.{cut-low}
 use Rattle.layout.specs.Layout.{elements, bottom, shapeAt, shapeOf, shapesFrom, cutShape}
 use Rattle.layout.specs.declared.Shape.{Shape}
-use Rattle.layout.proofs.Laws.{sound-elements}
-use Rattle.shapes.specs.declared.Extent.{Extent}
-use Rattle.shapes.specs.Ready.{known, Ready}
-use Rattle.shapes.specs.Shapes.{GroupOf, of-regfile, of-map, allShapes}
-use Rattle.shapes.proofs.Rows.{RowFits, width-range}
-use Rattle.shapes.proofs.Laws.{ready-is-row, ready-row, ready-block}
-use Rattle.shapes.proofs.Children.{ReadyChild, ReadyChildren, ready-none, ready-more, ready-children}
-use Rattle.faithful.specs.Sound.{All, all-none, all-more}
-use Rattle.faithful.proofs.Lists.{all-map, all-both}
-use Rattle.rows.specs.Limits.{nestLimit, registerLimit, fieldLimit, addressLimit}
+use Rattle.sizes.specs.declared.Extent.{Extent}
+use Rattle.sizes.specs.Ready.{known, Ready}
+use Rattle.sizes.specs.Shapes.{GroupOf, of-regfile, of-map, allShapes}
+use Rattle.sizes.proofs.Rows.{RowFits, width-range}
+use Rattle.sizes.proofs.Laws.{ready-is-row, ready-row, ready-block}
+use Rattle.sizes.proofs.Children.{ReadyChild, ReadyChildren, ready-none, ready-more, ready-children}
+use Rattle.basics.specs.All.{All, all-none, all-more}
+use Rattle.basics.proofs.All.{all-map, all-both}
+use Rattle.basics.specs.Limits.{nestLimit, registerLimit, fieldLimit, addressEnd}
 use Rattle.rows.specs.Rows.{padded, indexCode}
-use Rattle.map.specs.Visits.{PathStep, Visit, indexIn, isGroup}
-use Rattle.map.proofs.Elements.{stepFor, Stepped, Seen, visits-seen}
-use Rattle.map.specs.Whole.{isRegister, isRegisterVisit, tooMany, tooClose, misplaced, registersAmong}
-use Rattle.walk.specs.Runs.{stepCells}
-use Rattle.walk.specs.Walks.{elementsOf, registersOf, surveyFault}
+use Rattle.map_rules.specs.Visits.{PathStep, Visit, indexIn, isGroup}
+use Rattle.map_rules.proofs.Elements.{stepFor, Stepped, Seen, visits-seen}
+use Rattle.map_rules.specs.Whole.{isRegister, isRegisterVisit, tooMany, tooClose, misplaced, registersAmong}
+use Rattle.map_walk.specs.Runs.{stepCells}
+use Rattle.map_walk.specs.Walks.{elementsOf, registersOf, surveyFault}
 
 -- an instance in the body of a row, and the cell that holds it
-pub record Held (text t : List ℕ) (e : Extent) (c : Child) : Type 0 where
+pub record BodyCell (text t : List ℕ) (e : Extent) (c : Child) : Type 0 where
   pub row : ℕ
   pub alignment : Given
   pub low : row < e .rows
@@ -59,26 +58,26 @@ pub record Held (text t : List ℕ) (e : Extent) (c : Child) : Type 0 where
   pub cell : ℕ
   pub entry : IsEntry text (cellOf t cell) c
 
-held-by : (text t : List ℕ) (e : Extent) (row : ℕ) (a : Given) {i : ℕ} {cs : List Child} → row < e .rows → Block text t i cs → ReadyChildren text t e row a cs → All (Held text t e) cs
+held-by : (text t : List ℕ) (e : Extent) (row : ℕ) (a : Given) {i : ℕ} {cs : List Child} → row < e .rows → Block text t i cs → ReadyChildren text t e row a cs → All (BodyCell text t e) cs
 held-by text t e row a low block-end ready-none = all-none
 held-by text t e row a low (block-on {i = i} x b) (ready-more r rs) =
     all-more (record { row = row; alignment = a; low = low; fits = r; cell = i; entry = x }) (held-by text t e row a low b rs)
 
 pub held-all : (text t : List ℕ) (e : Extent) (row : ℕ) (a : Given) → Ready text t e → row < e .rows → GroupOf (definitionOf (known text t e) row .component) a
-    → All (Held text t e) (definitionOf (known text t e) row .instances)
+    → All (BodyCell text t e) (definitionOf (known text t e) row .instances)
 held-all text t e row a ready low g =
     let k : componentIn t row ≡ definitionOf (known text t e) row .component = ready-is-row text t e row ready low .component in
     held-by text t e row a low (ready-block text t e row ready low) (ready-children text t e row a ready low (rw k g))
 
 pub record StepOf (text t : List ℕ) (e : Extent) (s : PathStep) : Type 0 where
   pub child : Child
-  pub held : Held text t e child
+  pub held : BodyCell text t e child
   pub element : ℕ
   pub low : element < elements (child .instance .array)
   pub same : s ≡ stepFor child element
 
 -- an instance in a body gives its elements their steps
-held-stepped : {text t : List ℕ} {e : Extent} (c : Child) → Held text t e c → Stepped (e .rows) (StepOf text t e) c
+held-stepped : {text t : List ℕ} {e : Extent} (c : Child) → BodyCell text t e c → Stepped (e .rows) (StepOf text t e) c
 held-stepped {e = e} c h =
     record {
       below = omega (arith, h .fits .below, h .low);
@@ -86,7 +85,7 @@ held-stepped {e = e} c h =
     }
 
 group-held : (text t : List ℕ) (e : Extent) (row : ℕ) → Ready text t e → row < e .rows → (c : Component) → definitionOf (known text t e) row .component ≡ c → isGroup c ≡ true
-    → All (Held text t e) (definitionOf (known text t e) row .instances)
+    → All (BodyCell text t e) (definitionOf (known text t e) row .instances)
 group-held text t e row ready low (component.Field f) k y = absurd (let z : _≡_ {A = ℕ} 0 1 = cc in omega arith)
 group-held text t e row ready low (component.Register r) k y = absurd (let z : _≡_ {A = ℕ} 0 1 = cc in omega arith)
 group-held text t e row ready low (component.Regfile a) k y = held-all text t e row a ready low (rw k of-regfile)
@@ -103,14 +102,6 @@ index-low : (a : Array) (k : ℕ) → k < elements a → indexCode (indexIn a k)
 index-low array.Missing k h = omega arith
 index-low (array.Size mark n) k h = omega (arith, h)
 index-low (array.Range mark left right) k h = omega arith
-
-pub step-index : (text t : List ℕ) (e : Extent) (s : PathStep) → StepOf text t e s → indexCode (s .index) ≤ 1024
-step-index text t e s o =
-    let c : Child = o .child in
-    let l : elements (c .instance .array) ≤ 1024 =
-    sound-elements (kindOf (definitionOf (known text t e) (c .type) .component)) (c .instance) (o .held .fits .addressed) (o .held .fits .sound) .1 in
-    let z : indexCode (s .index) ≡ indexCode (indexIn (c .instance .array) (o .element)) = ap (λ (p : PathStep). indexCode (p .index)) (o .same) in
-    omega (arith, z, l, index-low (c .instance .array) (o .element) (o .low))
 
 -- a step in the cells of a path
 abbrev pub noStep : PathStep
@@ -180,7 +171,7 @@ module _ (text t : List ℕ) (e : Extent) (depth : ℕ) (v : Visit) (s : Seen (e
   seen-place = step-start (v .path) (length (v .path) - 1) (omega (arith, seen-length)) ∙ ap (λ (n : Name). n .start) seen-last
 
 -- 18, 19 and 20 are kept
-pub few-levels : (table : List Definition) (registers fields : ℕ) (vs : List Visit) → tooMany table registers fields vs ≡ Sound → All (λ (v : Visit). length (v .path) ≤ 8) vs
+pub few-levels : (table : List Definition) (registers fields : ℕ) (vs : List Visit) → tooMany table registers fields vs ≡ None → All (λ (v : Visit). length (v .path) ≤ 8) vs
 unfolding tooMany
 few-levels table registers fields [] f = all-none
 few-levels table registers fields (v ∷ vs) f =
@@ -191,7 +182,7 @@ few-levels table registers fields (v ∷ vs) f =
     let d : ltb 8 (length (v .path)) ≡ false = or-left (ltb nestLimit (length (v .path))) (ltb registerLimit r || ltb fieldLimit k) (pass-test 18 p (tooMany table r k vs) b f) in
     all-more (ltb-false 8 (length (v .path)) d) (few-levels table r k vs (pass-on 18 p (tooMany table r k vs) b f))
 
-pub none-short : (vs : List Visit) → tooClose vs ≡ Sound → All (λ (v : Visit). v .short ≡ false) vs
+pub none-short : (vs : List Visit) → tooClose vs ≡ None → All (λ (v : Visit). v .short ≡ false) vs
 unfolding tooClose
 none-short [] f = all-none
 none-short (v ∷ vs) f = all-more (pass-test 19 (v .name .start) (tooClose vs) (v .short) f) (none-short vs (pass-on 19 (v .name .start) (tooClose vs) (v .short) f))
@@ -199,25 +190,25 @@ none-short (v ∷ vs) f = all-more (pass-test 19 (v .name .start) (tooClose vs) 
 -- a register on a multiple of its access bytes, and its last byte in the range of addresses
 pub record Sited (shapes : List Shape) (v : Visit) : Type 0 where
   pub aligned : v .address .0 % shapeAt shapes (v .type) .access ≡ 0
-  pub within : v .address .0 + shapeAt shapes (v .type) .size ≤ 4294967296
+  pub within : v .address .0 + shapeAt shapes (v .type) .size ≤ addressEnd
 
-sited-by : (shapes : List Shape) (v : Visit) (r : Bool) → (r && (not (eqb (v .address .0 % shapeAt shapes (v .type) .access) 0) || ltb addressLimit (v .address .0 + shapeAt shapes (v .type) .size))) ≡ false → r ≡ true → Sited shapes v
+sited-by : (shapes : List Shape) (v : Visit) (r : Bool) → (r && (not (eqb (v .address .0 % shapeAt shapes (v .type) .access) 0) || ltb addressEnd (v .address .0 + shapeAt shapes (v .type) .size))) ≡ false → r ≡ true → Sited shapes v
 sited-by shapes v true f y =
     let s : Shape = shapeAt shapes (v .type) in
     let a : Bool = eqb (v .address .0 % s .access) 0 in
-    let b : Bool = ltb 4294967296 (v .address .0 + s .size) in
+    let b : Bool = ltb addressEnd (v .address .0 + s .size) in
     record {
       aligned = eqb-true (v .address .0 % s .access) 0 (not-false a (or-left (not a) b f));
-      within = ltb-false 4294967296 (v .address .0 + s .size) (or-right (not a) b f);
+      within = ltb-false addressEnd (v .address .0 + s .size) (or-right (not a) b f);
     }
 sited-by shapes v false f y = absurd (let z : _≡_ {A = ℕ} 0 1 = cc in omega arith)
 
-pub all-sited : (table : List Definition) (shapes : List Shape) (vs : List Visit) → misplaced table shapes vs ≡ Sound → All (λ (v : Visit). isRegisterVisit table v ≡ true → Sited shapes v) vs
+pub all-sited : (table : List Definition) (shapes : List Shape) (vs : List Visit) → misplaced table shapes vs ≡ None → All (λ (v : Visit). isRegisterVisit table v ≡ true → Sited shapes v) vs
 unfolding misplaced
 all-sited table shapes [] f = all-none
 all-sited table shapes (v ∷ vs) f =
     let s : Shape = shapeAt shapes (v .type) in
-    let b : Bool = isRegisterVisit table v && (not (eqb (v .address .0 % s .access) 0) || ltb addressLimit (v .address .0 + s .size)) in
+    let b : Bool = isRegisterVisit table v && (not (eqb (v .address .0 % s .access) 0) || ltb addressEnd (v .address .0 + s .size)) in
     let p : ℕ = v .name .start in
     all-more (sited-by shapes v (isRegisterVisit table v) (pass-test 20 p (misplaced table shapes vs) b f)) (all-sited table shapes vs (pass-on 20 p (misplaced table shapes vs) b f))
 
@@ -237,7 +228,7 @@ pub record RegisterKnown (text t : List ℕ) (e : Extent) (row : ℕ) : Type 0 w
   pub size : shapeAt (allShapes text t e) row .size ≡ register .width / 8
   pub parts : shapeAt (allShapes text t e) row .access ≡ register .access / 8
 
-register-widths : {r : Register} → Fits (component.Register r) → (isWidth (r .width) ≡ true) × (isWidth (r .access) ≡ true)
+register-widths : {r : Register} → ValuesFit (component.Register r) → (isWidth (r .width) ≡ true) × (isWidth (r .access) ≡ true)
 register-widths (register-fits p q) = (p, q)
 
 known-by : (text t : List ℕ) (e : Extent) (row : ℕ) → Ready text t e → row < e .rows → (c : Component) → definitionOf (known text t e) row .component ≡ c → isRegister c ≡ true → RegisterKnown text t e row
@@ -293,14 +284,14 @@ pub record RegisterSeen (text t : List ℕ) (e : Extent) (v : Visit) : Type 0 wh
   pub sited : Sited (allShapes text t e) v
   pub exact : cut (v .address .0) ≡ v .address .0
 
-pub registers-seen : (text t : List ℕ) (e : Extent) (row : ℕ) → Ready text t e → row < e .rows → surveyFault (known text t e) (allShapes text t e) (elementsOf text t e row) ≡ Sound
+pub registers-seen : (text t : List ℕ) (e : Extent) (row : ℕ) → Ready text t e → row < e .rows → surveyFault (known text t e) (allShapes text t e) (elementsOf text t e row) ≡ None
     → All (RegisterSeen text t e) (registersOf text t e row)
 registers-seen text t e row ready low f =
     let table : List Definition = known text t e in
     let shapes : List Shape = allShapes text t e in
     let vs : List Visit = elementsOf text t e row in
-    let a : tooMany table 0 0 vs ≡ Sound = first-sound (tooMany table 0 0 vs) (firstOf (tooClose vs) (misplaced table shapes vs)) f in
-    let b : misplaced table shapes vs ≡ Sound = later-sound (tooClose vs) (misplaced table shapes vs) (later-sound (tooMany table 0 0 vs) (firstOf (tooClose vs) (misplaced table shapes vs)) f) in
+    let a : tooMany table 0 0 vs ≡ None = first-sound (tooMany table 0 0 vs) (firstOf (tooClose vs) (misplaced table shapes vs)) f in
+    let b : misplaced table shapes vs ≡ None = later-sound (tooClose vs) (misplaced table shapes vs) (later-sound (tooMany table 0 0 vs) (firstOf (tooClose vs) (misplaced table shapes vs)) f) in
     all-map
     (λ v p.
     let s : Sited shapes v = p .0 .1 .1 (p .1) in

@@ -5,18 +5,18 @@ use mathlib.Core.List.{List}
 use Prim.Native.Nat.{ℕ, _+_, _*_, _<_, _≤_}
 use lib.Dec.{eqb, ltb}
 use lib.ListN.{length}
-use Rattle.suffixes.specs.declared.Fault.the-variants.{Sound}
+use Rattle.basics.specs.declared.Fault.the-variants.{None}
 use Rattle.components.specs.declared.Component.{Component}
 use Rattle.components.specs.declared.Component.the-variants as component
-use Rattle.table.specs.Cells.{cellOf}
-use Rattle.table.specs.Definitions.{Definition}
-use Rattle.rows.specs.Limits.{registerLimit, addressLimit}
-use Rattle.shapes.specs.declared.Extent.{Extent}
-use Rattle.shapes.specs.Ready.{known}
-use Rattle.shapes.specs.Shapes.{shapeIn, allShapes}
-use Rattle.map.specs.Whole.{isSharedLawfully}
-use Rattle.walk.specs.Runs.{logWidth}
-use Rattle.walk.specs.Walks.{Shaped, Logs, elementsOf, registersOf, surveyFault}
+use Rattle.basics.specs.Slices.{cellOf}
+use Rattle.cells.specs.Definitions.{Definition}
+use Rattle.basics.specs.Limits.{registerLimit, addressEnd}
+use Rattle.sizes.specs.declared.Extent.{Extent}
+use Rattle.sizes.specs.Ready.{known}
+use Rattle.sizes.specs.Shapes.{shapeIn, allShapes}
+use Rattle.map_rules.specs.Whole.{isSharedLawfully}
+use Rattle.map_walk.specs.Runs.{logWidth}
+use Rattle.map_walk.specs.Walks.{Shaped, Logs, elementsOf, registersOf, surveyFault}
 use Rattle.overlaps.specs.declared.Plot.{Plot}
 
 pub record Charted (text t s log : List ℕ) (e : Extent) (row : ℕ) : Type 0 where
@@ -24,7 +24,7 @@ pub record Charted (text t s log : List ℕ) (e : Extent) (row : ℕ) : Type 0 w
   pub low : row < e .rows
   pub logs : Logs log (registersOf text t e row)
   pub few : length (registersOf text t e row) ≤ registerLimit
-  pub sound : surveyFault (known text t e) (allShapes text t e) (elementsOf text t e row) ≡ Sound
+  pub sound : surveyFault (known text t e) (allShapes text t e) (elementsOf text t e row) ≡ None
 
 -- whether a field has this access; what is no field has each
 abbrev pub hasIn : ℕ → Component → Bool
@@ -49,5 +49,5 @@ plotsOverlap table v u =
 -- numbers that can be added
 pub record PlotFits (e : Extent) (p : Plot) : Type 0 where
   pub row : p .row < e .rows
-  pub address : p .address .0 ≤ addressLimit
-  pub size : p .size ≤ addressLimit
+  pub address : p .address .0 ≤ addressEnd
+  pub size : p .size ≤ addressEnd

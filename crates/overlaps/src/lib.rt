@@ -1,20 +1,20 @@
 // 21: the first register in map order that shares a byte with an earlier one unlawfully.
+use basics::Fault;
 use components::Component;
-use components::Offset;
-use settings::Access;
-use shapes::Extent;
-use suffixes::Fault;
+use fields::AccessRight;
+use fields::Offset;
+use sizes::Extent;
 ghost use mathlib.Core.Path.{_≡_};
 ghost use mathlib.Core.List.{[]};
 ghost use Prim.Native.Nat.{_+_, _*_, _<_, _≤_};
 ghost use lib.ListN.{length, take};
-ghost use Rattle.table.specs.Cells.{cellOf};
-ghost use Rattle.rows.specs.Limits.{nestLimit, registerLimit};
-ghost use Rattle.shapes.specs.Ready.{known, Ready};
-ghost use Rattle.shapes.specs.Shapes.{allShapes};
-ghost use Rattle.map.specs.Whole.{hasAccess, isPair, overlapsOne, overlapping};
-ghost use Rattle.walk.specs.Runs.{logWidth};
-ghost use Rattle.walk.specs.Walks.{visitAt, elementsOf, registersOf};
+ghost use Rattle.basics.specs.Slices.{cellOf};
+ghost use Rattle.basics.specs.Limits.{definitionLimit, nestLimit, registerLimit};
+ghost use Rattle.sizes.specs.Ready.{known, Ready};
+ghost use Rattle.sizes.specs.Shapes.{allShapes};
+ghost use Rattle.map_rules.specs.Whole.{hasAccess, isPair, overlapsOne, overlapping};
+ghost use Rattle.map_walk.specs.Runs.{logWidth};
+ghost use Rattle.map_walk.specs.Walks.{visitAt, elementsOf, registersOf};
 ghost use Rattle.overlaps.specs.Charted.{Charted, hasIn, plotIn, plotsOverlap, PlotFits};
 
 // A register of the log: its type's row, its address and its size in bytes.
@@ -41,11 +41,11 @@ fn has_access(text: &[u8], cells: &[u64], extent: Extent, row: usize, access: u6
     requires { ⌜ Ready (now text) (now cells) extent × (row < extent .rows) ⌝ }
     ensures { λ r. ⌜ r ≡ hasAccess (known (now (text .entry)) (now (cells .entry)) extent) access row ⌝ }
 {
-    let span = shapes::instances_of(text, cells, extent, row);
+    let span = cells::instances_of(cells, row);
     let mut i = span.from;
     while i < span.to {
-        let entry = table::cell(cells, i);
-        let component = table::component_at(cells, table::row_in(entry));
+        let entry = basics::cell(cells, i);
+        let component = cells::component_at(cells, cells::row_in(entry));
         if !is_access(component, access) {
             return false;
         }
@@ -64,7 +64,7 @@ fn is_pair(text: &[u8], cells: &[u64], extent: Extent, reader: usize, writer: us
         cells,
         extent,
         reader,
-        settings::access_code(Access::R),
+        fields::access_code(AccessRight::R),
     ) {
         return false;
     }
@@ -73,19 +73,19 @@ fn is_pair(text: &[u8], cells: &[u64], extent: Extent, reader: usize, writer: us
         cells,
         extent,
         writer,
-        settings::access_code(Access::W),
+        fields::access_code(AccessRight::W),
     )
 }
 
 // A register of the log.
 fn plot_at(shapes: &[u64], log: &[u64], i: usize) -> Plot
-    requires { ⌜ (i ≤ registerLimit) × (cellOf (now log) (i * logWidth + 1) < 256) ⌝ }
+    requires { ⌜ (i ≤ registerLimit) × (cellOf (now log) (i * logWidth + 1) < definitionLimit) ⌝ }
     ensures { λ r. ⌜ r ≡ plotIn (now (shapes .entry)) (now (log .entry)) i ⌝ }
 {
-    let start = i * walk::LOG_ROW;
-    let address = Offset(table::cell(log, start));
-    let row = table::cell(log, start + 1) as usize;
-    let shape = shapes::shape_at(shapes, row);
+    let start = i * map_walk::LOG_WIDTH;
+    let address = Offset(basics::cell(log, start));
+    let row = basics::cell(log, start + 1) as usize;
+    let shape = sizes::shape_at(shapes, row);
     Plot {
         row,
         address,
@@ -117,11 +117,10 @@ fn overlaps_earlier(
     shapes: &[u64],
     log: &[u64],
     extent: Extent,
-    row: usize,
     i: usize,
 ) -> bool
-    requires { ⌜ Charted (now text) (now cells) (now shapes) (now log) extent row × (i < length (registersOf (now text) (now cells) extent row)) ⌝ }
-    ensures { λ r. ⌜ r ≡ overlapsOne (known (now (text .entry)) (now (cells .entry)) extent) (allShapes (now (text .entry)) (now (cells .entry)) extent) (visitAt (registersOf (now (text .entry)) (now (cells .entry)) extent row) i) (take i (registersOf (now (text .entry)) (now (cells .entry)) extent row)) ⌝ }
+    requires { ⌜ Charted (now text) (now cells) (now shapes) (now log) extent (extent .map) × (i < length (registersOf (now text) (now cells) extent (extent .map))) ⌝ }
+    ensures { λ r. ⌜ r ≡ overlapsOne (known (now (text .entry)) (now (cells .entry)) extent) (allShapes (now (text .entry)) (now (cells .entry)) extent) (visitAt (registersOf (now (text .entry)) (now (cells .entry)) extent (extent .map)) i) (take i (registersOf (now (text .entry)) (now (cells .entry)) extent (extent .map))) ⌝ }
 {
     let plot = plot_at(shapes, log, i);
     let mut j = 0;
@@ -139,9 +138,9 @@ fn place_at(log: &[u64], i: usize) -> usize
     requires { ⌜ (i ≤ registerLimit) × (cellOf (now log) (i * logWidth + 2) ≤ nestLimit) ⌝ }
     ensures { λ r. ⌜ r ≡ cellOf (now (log .entry)) (i * logWidth + 3 * cellOf (now (log .entry)) (i * logWidth + 2)) ⌝ }
 {
-    let start = i * walk::LOG_ROW;
-    let depth = table::cell(log, start + 2) as usize;
-    table::cell(log, start + 3 * depth) as usize
+    let start = i * map_walk::LOG_WIDTH;
+    let depth = basics::cell(log, start + 2) as usize;
+    basics::cell(log, start + 3 * depth) as usize
 }
 
 // The first register that overlaps an earlier one.
@@ -151,18 +150,17 @@ pub fn first_overlap(
     shapes: &[u64],
     log: &[u64],
     extent: Extent,
-    row: usize,
     count: usize,
 ) -> Fault
-    requires { ⌜ Charted (now text) (now cells) (now shapes) (now log) extent row × (count ≡ length (registersOf (now text) (now cells) extent row)) ⌝ }
-    ensures { λ r. ⌜ r ≡ overlapping (known (now (text .entry)) (now (cells .entry)) extent) (allShapes (now (text .entry)) (now (cells .entry)) extent) [] (elementsOf (now (text .entry)) (now (cells .entry)) extent row) ⌝ }
+    requires { ⌜ Charted (now text) (now cells) (now shapes) (now log) extent (extent .map) × (count ≡ length (registersOf (now text) (now cells) extent (extent .map))) ⌝ }
+    ensures { λ r. ⌜ r ≡ overlapping (known (now (text .entry)) (now (cells .entry)) extent) (allShapes (now (text .entry)) (now (cells .entry)) extent) [] (elementsOf (now (text .entry)) (now (cells .entry)) extent (extent .map)) ⌝ }
 {
     let mut i = 0;
     while i < count {
-        if overlaps_earlier(text, cells, shapes, log, extent, row, i) {
-            return Fault::Broken(21, place_at(log, i));
+        if overlaps_earlier(text, cells, shapes, log, extent, i) {
+            return Fault::Refused(21, place_at(log, i));
         }
         i += 1;
     }
-    Fault::Sound
+    Fault::None
 }

@@ -1,11 +1,10 @@
 -- Where readings end: behind the cursor that they start at, within the text.
 use mathlib.Core.Bool.{Bool, true, false}
-use mathlib.Core.Path.{_≡_, refl, sym, _∙_}
+use mathlib.Core.Path.{_≡_, refl}
 use mathlib.Core.List.{List}
-use Prim.Native.Nat.{ℕ, suc, _+_, _<_, _≤_}
+use Prim.Native.Nat.{ℕ, suc, _≤_}
 use native.Mathlib.Omega.{arith}
 use lib.ListN.{length}
-use Rattle.chars.specs.Choice.{if_then_else_}
 use Rattle.chars.proofs.Laws.{either}
 use Rattle.lex.specs.Token.{tokenAt}
 use Rattle.lex.specs.declared.Token.{Token}
@@ -16,13 +15,11 @@ use Rattle.vocabulary.specs.declared.Mark.{Mark}
 use Rattle.vocabulary.specs.declared.Mark.the-variants as mark
 pub use Rattle.expressions.proofs.Ends.{Ends, ends-ok, ends-stop, ends-of, ends-mapped, ends-after, ends-then, test-past, number-ends}
 use Rattle.expressions.specs.Grammar.{numberAt}
-use Rattle.parts.specs.Reading.{Parsed, ok, stop, andThen, mapped}
-use Rattle.parts.specs.Words.{roleOf, roleValue, isName, kindOf, isKind, isDefault, isProperty, isMark}
-use Rattle.parts.specs.Parts.{closedBy, nameAt, arrayRestAt, arrayAt, suffixMark, suffixAt, bare, setSuffix, withSuffix, bareAt, instanceAt, partedAt, listedAt, valueIn, valueOr, valueAt, property, settingAt, propertyWordAt, propertyAt, headerRestAt, headerOf, headerAt}
+use Rattle.parts.specs.Reading.{Parsed, mapped}
+use Rattle.parts.specs.Words.{isName, kindOf, isDefault, isProperty, isMark}
+use Rattle.parts.specs.Parts.{closedBy, nameAt, arrayRestAt, arrayAt, suffixMark, suffixAt, withSuffix, bareAt, instanceAt, partedAt, listedAt, valueIn, valueOr, valueAt, settingAt, propertyWordAt, propertyAt, headerRestAt, headerOf, headerAt}
 use Rattle.expressions.specs.declared.Number.{Number}
-use Rattle.parts.specs.declared.Name.{Name}
 use Rattle.parts.specs.declared.Array.{Array}
-use Rattle.parts.specs.declared.Suffix.{Suffix}
 use Rattle.parts.specs.declared.SuffixKind.{SuffixKind}
 use Rattle.parts.specs.declared.SuffixKind.the-variants.{Reset, Address, Stride, Alignment}
 use Rattle.parts.specs.declared.Instance.{Instance}

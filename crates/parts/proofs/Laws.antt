@@ -1,26 +1,19 @@
 -- The readers of parts, one law for each way that the code goes.
 use mathlib.Core.Bool.{Bool, true, false, _||_}
-use mathlib.Core.Path.{_≡_, refl, sym, ap, _∙_}
-use mathlib.Core.List.{List, [], _∷_}
+use mathlib.Core.Path.{_≡_, refl, sym, _∙_}
+use mathlib.Core.List.{List}
 use Prim.Native.Nat.{ℕ}
 use native.Mathlib.Omega.{arith}
-use types.Run.{OneOf, miss}
-use denote.Enum.Declared.{tagOf}
-use Rattle.chars.specs.Choice.{if_then_else_}
 use Rattle.lex.specs.Token.{tokenAt}
 use Rattle.lex.specs.declared.Token.{Token}
-use Rattle.lex.specs.declared.Word.{Word}
-use Rattle.lex.specs.declared.Word.the-variants as word
-use Rattle.lex.proofs.Word.{the-type}
 use Rattle.vocabulary.specs.declared.Mark.{Mark}
 use Rattle.vocabulary.specs.declared.Mark.the-variants as mark
-use Rattle.vocabulary.specs.declared.Keyword.{Keyword}
 use Rattle.expressions.specs.Grammar.{numberAt}
 use Rattle.expressions.specs.Answers.{numberRead}
-use Rattle.parts.specs.Reading.{Parsed, ok, stop, andThen, mapped, unexpected}
-use Rattle.parts.specs.Words.{roleOf, roleValue, isName, kindOf, isKind, isDefault, isProperty, isMark}
-use Rattle.parts.specs.Parts.{closedBy, nameAt, arrayRestAt, arrayAt, suffixMark, suffixAt, instanceOf, bare, setSuffix, withSuffix, bareAt, startsSuffix, placingAt, suffixedAt, instanceAt, partedAt, listedAt, valueIn, valueOr, valueAt, property, settingAt, propertyWordAt, propertyAt, headerRestAt, headerOf, headerAt, startsInstances}
-use Rattle.parts.specs.Answers.{nameRead, arrayRead, suffixRead, instanceRead, listedRead, valueRead, propertyRead, headerRead}
+use Rattle.parts.specs.Reading.{Parsed, ok, stop, andThen, mapped}
+use Rattle.parts.specs.Words.{isName, kindOf, isDefault, isProperty, isMark}
+use Rattle.parts.specs.Parts.{closedBy, nameAt, arrayRestAt, arrayAt, suffixMark, suffixAt, instanceOf, bare, setSuffix, withSuffix, bareAt, startsSuffix, placingAt, suffixedAt, instanceAt, partedAt, listedAt, valueIn, valueAt, property, settingAt, propertyWordAt, propertyAt, headerRestAt, headerAt, startsInstances}
+use Rattle.parts.specs.Answers.{nameRead, arrayRead, suffixRead, instanceRead, valueRead}
 use Rattle.expressions.specs.declared.Number.{Number}
 use Rattle.expressions.specs.declared.NumberReading.{NumberReading}
 use Rattle.parts.specs.declared.Name.{Name}
@@ -31,14 +24,11 @@ use Rattle.parts.specs.declared.Suffix.{Suffix}
 use Rattle.parts.specs.declared.SuffixReading.{SuffixReading}
 use Rattle.parts.specs.declared.Instance.{Instance}
 use Rattle.parts.specs.declared.InstanceReading.{InstanceReading}
-use Rattle.parts.specs.declared.Listed.{Listed}
-use Rattle.parts.specs.declared.ListedReading.{ListedReading}
+use Rattle.parts.specs.declared.ListItem.{ListItem}
 use Rattle.parts.specs.declared.Value.{Value}
 use Rattle.parts.specs.declared.ValueReading.{ValueReading}
-use Rattle.parts.specs.declared.Property.{Property}
-use Rattle.parts.specs.declared.PropertyReading.{PropertyReading}
+use Rattle.parts.specs.declared.Assignment.{Assignment}
 use Rattle.parts.specs.declared.Header.{Header}
-use Rattle.parts.specs.declared.HeaderReading.{HeaderReading}
 use Rattle.parts.specs.declared.NameReading.the-variants as nameReading
 use Rattle.expressions.specs.declared.NumberReading.the-variants as numberReading
 use Rattle.parts.specs.declared.ArrayReading.the-variants as arrayReading
@@ -110,7 +100,7 @@ module _ (t : List ℕ) (at : ℕ) {k : Token} (e : k ≡ tokenAt t at) where
         range-no i = rw (← e, sym f ∙ g, sym h ∙ i)
 
         module _ {x : NumberReading} (i : s ≡ true) (j : numberRead x ≡ numberAt t (k .end)) where
-          pub range-stop : {m q : ℕ} → x ≡ numberReading.Stop m q → stop m q ≡ arrayRestAt p left t at
+          pub range-stop : {m q : ℕ} → x ≡ numberReading.Refused m q → stop m q ≡ arrayRestAt p left t at
           unfolding arrayRestAt
           range-stop l = rw (← e, sym f ∙ g, sym h ∙ i) (then-stop _ (rw l at j))
 
@@ -126,7 +116,7 @@ module _ (t : List ℕ) (at : ℕ) {k : Token} (e : k ≡ tokenAt t at) where
     array-none g = rw (← e, sym f ∙ g)
 
     module _ {x : NumberReading} (g : r ≡ true) (j : numberRead x ≡ numberAt t (k .end)) where
-      pub array-stop : {m q : ℕ} → x ≡ numberReading.Stop m q → stop m q ≡ arrayAt t at
+      pub array-stop : {m q : ℕ} → x ≡ numberReading.Refused m q → stop m q ≡ arrayAt t at
       unfolding arrayAt
       array-stop l = rw (← e, sym f ∙ g) (then-stop _ (rw l at j))
 
@@ -141,7 +131,7 @@ module _ (t : List ℕ) (at : ℕ) {k : Token} (e : k ≡ tokenAt t at) where
     suffix-none g = rw (← e, ← d, sym f ∙ g)
 
     module _ {x : NumberReading} (g : r ≡ true) (j : numberRead x ≡ numberAt t (k .end)) where
-      pub suffix-stop : {m q : ℕ} → x ≡ numberReading.Stop m q → stop m q ≡ suffixAt s t at
+      pub suffix-stop : {m q : ℕ} → x ≡ numberReading.Refused m q → stop m q ≡ suffixAt s t at
       unfolding suffixAt
       suffix-stop l = rw (← e, ← d, sym f ∙ g) (mapped-stop _ (rw l at j))
 
@@ -175,13 +165,13 @@ module _ (t : List ℕ) (at : ℕ) {k : Token} (e : k ≡ tokenAt t at) where
       unfolding valueAt
       value-number h = rw (← e, sym f ∙ g) (mapped-ok _ (rw h at j))
 
-      pub value-stop : {m q : ℕ} → x ≡ numberReading.Stop m q → stop m q ≡ valueAt t at
+      pub value-stop : {m q : ℕ} → x ≡ numberReading.Refused m q → stop m q ≡ valueAt t at
       unfolding valueAt
       value-stop h = rw (← e, sym f ∙ g) (mapped-stop _ (rw h at j))
 
   -- behind a property word
   module _ (d : Bool) (w : Token) {r : Bool} (f : r ≡ isMark mark.Semicolon (k .word)) where
-    pub setting-alone : {x : Property} → r ≡ true → x ≡ property d w value.Missing → ok x (k .end) ≡ settingAt d w t at
+    pub setting-alone : {x : Assignment} → r ≡ true → x ≡ property d w value.Missing → ok x (k .end) ≡ settingAt d w t at
     unfolding settingAt
     setting-alone g h = rw (← e, sym f ∙ g, h)
 
@@ -191,18 +181,18 @@ module _ (t : List ℕ) (at : ℕ) {k : Token} (e : k ≡ tokenAt t at) where
       setting-no i = rw (← e, sym f ∙ g, sym h ∙ i)
 
       module _ {x : ValueReading} (i : s ≡ true) (j : valueRead x ≡ valueAt t (k .end)) where
-        pub setting-stop : {m q : ℕ} → x ≡ valueReading.Stop m q → stop m q ≡ settingAt d w t at
+        pub setting-stop : {m q : ℕ} → x ≡ valueReading.Refused m q → stop m q ≡ settingAt d w t at
         unfolding settingAt
         setting-stop l = rw (← e, sym f ∙ g, sym h ∙ i) (then-stop _ (rw l at j))
 
-        pub setting-close : {v : Value} {n : ℕ} {z : Property} {y : Parsed Property} → x ≡ valueReading.Done v n → z ≡ property d w v
+        pub setting-close : {v : Value} {n : ℕ} {z : Assignment} {y : Parsed Assignment} → x ≡ valueReading.Done v n → z ≡ property d w v
             → y ≡ closedBy mark.Semicolon z t n → y ≡ settingAt d w t at
         unfolding settingAt
         setting-close l m o = rw (← e, sym f ∙ g, sym h ∙ i) ((rw m at o) ∙ then-ok _ (rw l at j))
 
   -- a property statement
   module _ (d : Bool) {r : Bool} (f : r ≡ isProperty (k .word)) where
-    pub word-yes : {y : Parsed Property} → r ≡ true → y ≡ settingAt d k t (k .end) → y ≡ propertyWordAt d t at
+    pub word-yes : {y : Parsed Assignment} → r ≡ true → y ≡ settingAt d k t (k .end) → y ≡ propertyWordAt d t at
     unfolding propertyWordAt
     word-yes g h = rw (← e, sym f ∙ g) h
 
@@ -211,11 +201,11 @@ module _ (t : List ℕ) (at : ℕ) {k : Token} (e : k ≡ tokenAt t at) where
     word-no g = rw (← e, sym f ∙ g)
 
   module _ {r : Bool} (f : r ≡ isDefault (k .word)) where
-    pub property-default : {y : Parsed Property} → r ≡ true → y ≡ propertyWordAt true t (k .end) → y ≡ propertyAt t at
+    pub property-default : {y : Parsed Assignment} → r ≡ true → y ≡ propertyWordAt true t (k .end) → y ≡ propertyAt t at
     unfolding propertyAt
     property-default g h = rw (← e, sym f ∙ g) h
 
-    pub property-own : {y : Parsed Property} → r ≡ false → y ≡ propertyWordAt false t at → y ≡ propertyAt t at
+    pub property-own : {y : Parsed Assignment} → r ≡ false → y ≡ propertyWordAt false t at → y ≡ propertyAt t at
     unfolding propertyAt
     property-own g h = rw (← e, sym f ∙ g) h
 
@@ -299,7 +289,7 @@ module _ (t : List ℕ) (m : Name) (a : Array) (at : ℕ) where
   suffixes-none f g h = rw h (sym (bare-whole t m a at (sym f ∙ g)))
 
   module _ {x : SuffixReading} (e : suffixRead x ≡ suffixAt Reset t at) where
-    pub reset-stop : {n q : ℕ} → x ≡ suffixReading.Stop n q → stop n q ≡ suffixedAt t (ok (bare m a) at)
+    pub reset-stop : {n q : ℕ} → x ≡ suffixReading.Refused n q → stop n q ≡ suffixedAt t (ok (bare m a) at)
     unfolding withSuffix andThen mapped
     reset-stop f = rw (← e, f)
 
@@ -308,17 +298,17 @@ module _ (t : List ℕ) (m : Name) (a : Array) (at : ℕ) where
     reset-done f g = rw (← e, f) g
 
   module _ (r : Suffix) {x : SuffixReading} (e : suffixRead x ≡ suffixAt Address t at) where
-    pub address-stop : {n q : ℕ} → x ≡ suffixReading.Stop n q → stop n q ≡ placingAt t (ok (setSuffix Reset r (bare m a)) at)
+    pub address-stop : {n q : ℕ} → x ≡ suffixReading.Refused n q → stop n q ≡ placingAt t (ok (setSuffix Reset r (bare m a)) at)
     unfolding withSuffix andThen mapped
     address-stop f = rw (← e, f)
 
     module _ {d : Suffix} {first : ℕ} {y : SuffixReading} (f : x ≡ suffixReading.Done d first) (g : suffixRead y ≡ suffixAt Stride t first) where
-      pub stride-stop : {n q : ℕ} → y ≡ suffixReading.Stop n q → stop n q ≡ placingAt t (ok (setSuffix Reset r (bare m a)) at)
+      pub stride-stop : {n q : ℕ} → y ≡ suffixReading.Refused n q → stop n q ≡ placingAt t (ok (setSuffix Reset r (bare m a)) at)
       unfolding withSuffix andThen mapped
       stride-stop h = rw (← e, f, ← g, h)
 
       module _ {s : Suffix} {second : ℕ} {z : SuffixReading} (h : y ≡ suffixReading.Done s second) (i : suffixRead z ≡ suffixAt Alignment t second) where
-        pub alignment-stop : {n q : ℕ} → z ≡ suffixReading.Stop n q → stop n q ≡ placingAt t (ok (setSuffix Reset r (bare m a)) at)
+        pub alignment-stop : {n q : ℕ} → z ≡ suffixReading.Refused n q → stop n q ≡ placingAt t (ok (setSuffix Reset r (bare m a)) at)
         unfolding withSuffix andThen mapped
         alignment-stop j = rw (← e, f, ← g, h, ← i, j)
 
@@ -330,7 +320,7 @@ module _ (t : List ℕ) (m : Name) (a : Array) (at : ℕ) where
 -- a reading that becomes part of a larger one
 module _ (t : List ℕ) where
   module _ (m : Name) (at : ℕ) {x : ArrayReading} (e : arrayRead x ≡ arrayAt t at) where
-    pub named-stop : {n q : ℕ} → x ≡ arrayReading.Stop n q → stop n q ≡ suffixedAt t (mapped (bare m) (arrayAt t at))
+    pub named-stop : {n q : ℕ} → x ≡ arrayReading.Refused n q → stop n q ≡ suffixedAt t (mapped (bare m) (arrayAt t at))
     unfolding withSuffix andThen mapped
     named-stop f = rw (← e, f)
 
@@ -339,7 +329,7 @@ module _ (t : List ℕ) where
     named-done f g = rw (← e, f) g
 
   module _ (at : ℕ) {x : NameReading} (e : nameRead x ≡ nameAt t at) where
-    pub name-stop : {q : ℕ} → x ≡ nameReading.Stop q → stop 3 q ≡ instanceAt t at
+    pub name-stop : {q : ℕ} → x ≡ nameReading.Refused q → stop 3 q ≡ instanceAt t at
     unfolding instanceAt bareAt withSuffix andThen
     name-stop f = rw (← e, f)
 
@@ -348,10 +338,10 @@ module _ (t : List ℕ) where
     name-done f g = rw (← e, f) g
 
   module _ (at : ℕ) {x : InstanceReading} (e : instanceRead x ≡ instanceAt t at) where
-    pub listed-stop : {m q : ℕ} → x ≡ instanceReading.Stop m q → stop m q ≡ listedAt t at
+    pub listed-stop : {m q : ℕ} → x ≡ instanceReading.Refused m q → stop m q ≡ listedAt t at
     unfolding listedAt
     listed-stop f = then-stop _ (rw f at e)
 
-    pub listed-more : {i : Instance} {n : ℕ} {y : Parsed Listed} → x ≡ instanceReading.Done i n → y ≡ partedAt i t n → y ≡ listedAt t at
+    pub listed-more : {i : Instance} {n : ℕ} {y : Parsed ListItem} → x ≡ instanceReading.Done i n → y ≡ partedAt i t n → y ≡ listedAt t at
     unfolding listedAt
     listed-more f g = g ∙ then-ok _ (rw f at e)

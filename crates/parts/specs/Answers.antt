@@ -12,47 +12,47 @@ use Rattle.parts.specs.declared.SuffixReading.the-variants as suffix
 use Rattle.parts.specs.declared.Instance.{Instance}
 use Rattle.parts.specs.declared.InstanceReading.{InstanceReading}
 use Rattle.parts.specs.declared.InstanceReading.the-variants as instance
-use Rattle.parts.specs.declared.Listed.{Listed}
-use Rattle.parts.specs.declared.ListedReading.{ListedReading}
-use Rattle.parts.specs.declared.ListedReading.the-variants as listed
+use Rattle.parts.specs.declared.ListItem.{ListItem}
+use Rattle.parts.specs.declared.ListItemReading.{ListItemReading}
+use Rattle.parts.specs.declared.ListItemReading.the-variants as listed
 use Rattle.parts.specs.declared.Value.{Value}
 use Rattle.parts.specs.declared.ValueReading.{ValueReading}
 use Rattle.parts.specs.declared.ValueReading.the-variants as value
-use Rattle.parts.specs.declared.Property.{Property}
-use Rattle.parts.specs.declared.PropertyReading.{PropertyReading}
-use Rattle.parts.specs.declared.PropertyReading.the-variants as property
+use Rattle.parts.specs.declared.Assignment.{Assignment}
+use Rattle.parts.specs.declared.AssignmentReading.{AssignmentReading}
+use Rattle.parts.specs.declared.AssignmentReading.the-variants as property
 use Rattle.parts.specs.declared.Header.{Header}
 use Rattle.parts.specs.declared.HeaderReading.{HeaderReading}
 use Rattle.parts.specs.declared.HeaderReading.the-variants as header
 
 abbrev pub nameRead : NameReading → Parsed Name
 nameRead (name.Done x next) = ok x next
-nameRead (name.Stop place) = stop 3 place
+nameRead (name.Refused place) = stop 3 place
 
 abbrev pub arrayRead : ArrayReading → Parsed Array
 arrayRead (array.Done x next) = ok x next
-arrayRead (array.Stop n place) = stop n place
+arrayRead (array.Refused n place) = stop n place
 
 abbrev pub suffixRead : SuffixReading → Parsed Suffix
 suffixRead (suffix.Done x next) = ok x next
-suffixRead (suffix.Stop n place) = stop n place
+suffixRead (suffix.Refused n place) = stop n place
 
 abbrev pub instanceRead : InstanceReading → Parsed Instance
 instanceRead (instance.Done x next) = ok x next
-instanceRead (instance.Stop n place) = stop n place
+instanceRead (instance.Refused n place) = stop n place
 
-abbrev pub listedRead : ListedReading → Parsed Listed
+abbrev pub listedRead : ListItemReading → Parsed ListItem
 listedRead (listed.Done x next) = ok x next
-listedRead (listed.Stop n place) = stop n place
+listedRead (listed.Refused n place) = stop n place
 
 abbrev pub valueRead : ValueReading → Parsed Value
 valueRead (value.Done x next) = ok x next
-valueRead (value.Stop n place) = stop n place
+valueRead (value.Refused n place) = stop n place
 
-abbrev pub propertyRead : PropertyReading → Parsed Property
+abbrev pub propertyRead : AssignmentReading → Parsed Assignment
 propertyRead (property.Done x next) = ok x next
-propertyRead (property.Stop n place) = stop n place
+propertyRead (property.Refused n place) = stop n place
 
 abbrev pub headerRead : HeaderReading → Parsed Header
 headerRead (header.Done x next) = ok x next
-headerRead (header.Stop place) = stop 3 place
+headerRead (header.Refused place) = stop 3 place

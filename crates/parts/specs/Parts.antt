@@ -2,14 +2,14 @@
 use mathlib.Core.Bool.{Bool, true, false, _||_, _&&_}
 use mathlib.Core.List.{List}
 use Prim.Native.Nat.{ℕ}
-use Rattle.chars.specs.Choice.{if_then_else_}
+use Rattle.basics.specs.Choice.{if_then_else_}
 use Rattle.lex.specs.Token.{tokenAt}
 use Rattle.lex.specs.declared.Token.{Token}
 use Rattle.lex.specs.declared.Word.{Word}
 use Rattle.lex.specs.declared.Word.the-variants as word
 use Rattle.vocabulary.specs.declared.Mark.{Mark}
 use Rattle.vocabulary.specs.declared.Mark.the-variants as mark
-use Rattle.parts.specs.Reading.{Parsed, ok, stop, andThen, mapped, unexpected}
+use Rattle.parts.specs.Reading.{Parsed, ok, andThen, mapped, unexpected}
 use Rattle.parts.specs.Words.{roleOf, roleValue, isName, kindOf, isDefault, isProperty, isMark}
 use Rattle.expressions.specs.Grammar.{numberAt}
 use Rattle.expressions.specs.declared.Number.{Number}
@@ -21,12 +21,12 @@ use Rattle.parts.specs.declared.Suffix.the-variants as suffix
 use Rattle.parts.specs.declared.SuffixKind.{SuffixKind}
 use Rattle.parts.specs.declared.SuffixKind.the-variants.{Reset, Address, Stride, Alignment}
 use Rattle.parts.specs.declared.Instance.{Instance}
-use Rattle.parts.specs.declared.Listed.{Listed}
+use Rattle.parts.specs.declared.ListItem.{ListItem}
 use Rattle.parts.specs.declared.Value.{Value}
 use Rattle.parts.specs.declared.Value.the-variants as value
 use Rattle.parts.specs.declared.ValueLookup.{ValueLookup}
 use Rattle.parts.specs.declared.ValueLookup.the-variants.{IsValue, NoValue}
-use Rattle.parts.specs.declared.Property.{Property}
+use Rattle.parts.specs.declared.Assignment.{Assignment}
 use Rattle.parts.specs.declared.Kind.{Kind}
 use Rattle.parts.specs.declared.KindLookup.{KindLookup}
 use Rattle.parts.specs.declared.KindLookup.the-variants.{IsKind, NoKind}
@@ -112,14 +112,14 @@ startsSuffix text at =
     isMark (suffixMark Reset) w || (isMark (suffixMark Address) w || (isMark (suffixMark Stride) w || isMark (suffixMark Alignment) w))
 
 -- behind an instance: "parted by commas", and `;` behind the last
-unfoldable pub partedAt : Instance → List ℕ → ℕ → Parsed Listed
+unfoldable pub partedAt : Instance → List ℕ → ℕ → Parsed ListItem
 partedAt i text at =
     let k = tokenAt text at in
     if isMark mark.Semicolon (k .word) then ok (record { instance = i; last = true }) (k .end) else
     if isMark mark.Comma (k .word) then ok (record { instance = i; last = false }) (k .end) else
     unexpected k
 
-unfoldable pub listedAt : List ℕ → ℕ → Parsed Listed
+unfoldable pub listedAt : List ℕ → ℕ → Parsed ListItem
 listedAt text at = andThen (instanceAt text at) (λ i next. partedAt i text next)
 
 -- a string, `true`, `false` or a word of the lists
@@ -140,11 +140,11 @@ valueOr NoValue e number = number
 unfoldable pub valueAt : List ℕ → ℕ → Parsed Value
 valueAt text at = let k = tokenAt text at in valueOr (valueIn (k .word) (k .start)) (k .end) (mapped value.Number (numberAt text at))
 
-abbrev pub property : Bool → Token → Value → Property
+abbrev pub property : Bool → Token → Value → Assignment
 property d k v = record { defaulted = d; start = k .start; end = k .end; value = v }
 
 -- behind a property word: "optional `=` value, `;`"
-unfoldable pub settingAt : Bool → Token → List ℕ → ℕ → Parsed Property
+unfoldable pub settingAt : Bool → Token → List ℕ → ℕ → Parsed Assignment
 settingAt d w text at =
     let k = tokenAt text at in
     if isMark mark.Semicolon (k .word) then ok (property d w value.Missing) (k .end) else
@@ -152,11 +152,11 @@ settingAt d w text at =
     unexpected k
 
 -- a property word and what follows
-unfoldable pub propertyWordAt : Bool → List ℕ → ℕ → Parsed Property
+unfoldable pub propertyWordAt : Bool → List ℕ → ℕ → Parsed Assignment
 propertyWordAt d text at = let k = tokenAt text at in if isProperty (k .word) then settingAt d k text (k .end) else unexpected k
 
 -- "property statements (`default` if wished, property, optional `=` value, `;`)"
-unfoldable pub propertyAt : List ℕ → ℕ → Parsed Property
+unfoldable pub propertyAt : List ℕ → ℕ → Parsed Assignment
 propertyAt text at =
     let k = tokenAt text at in
     if isDefault (k .word) then propertyWordAt true text (k .end) else propertyWordAt false text at

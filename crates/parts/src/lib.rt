@@ -42,7 +42,7 @@ pub struct Name {
 
 pub enum NameReading {
     Done(Name, usize),
-    Stop(usize),
+    Refused(usize),
 }
 
 // `[n]` or `[left:right]`, with the place of its first mark.
@@ -54,7 +54,7 @@ pub enum Array {
 
 pub enum ArrayReading {
     Done(Array, usize),
-    Stop(u8, usize),
+    Refused(u8, usize),
 }
 
 // A mark and a number, with the mark's place.
@@ -73,7 +73,7 @@ pub enum SuffixKind {
 
 pub enum SuffixReading {
     Done(Suffix, usize),
-    Stop(u8, usize),
+    Refused(u8, usize),
 }
 
 // An instance with its suffixes.
@@ -88,18 +88,18 @@ pub struct Instance {
 
 pub enum InstanceReading {
     Done(Instance, usize),
-    Stop(u8, usize),
+    Refused(u8, usize),
 }
 
 // An instance of a list, and whether it is the list's last.
-pub struct Listed {
+pub struct ListItem {
     pub instance: Instance,
     pub last: bool,
 }
 
-pub enum ListedReading {
-    Done(Listed, usize),
-    Stop(u8, usize),
+pub enum ListItemReading {
+    Done(ListItem, usize),
+    Refused(u8, usize),
 }
 
 // A property's value, with its place; Missing where the property stands alone.
@@ -117,20 +117,20 @@ pub enum ValueLookup {
 
 pub enum ValueReading {
     Done(Value, usize),
-    Stop(u8, usize),
+    Refused(u8, usize),
 }
 
 // A property statement: whether it is a default, the property word's place and end, and the value.
-pub struct Property {
+pub struct Assignment {
     pub defaulted: bool,
     pub start: usize,
     pub end: usize,
     pub value: Value,
 }
 
-pub enum PropertyReading {
-    Done(Property, usize),
-    Stop(u8, usize),
+pub enum AssignmentReading {
+    Done(Assignment, usize),
+    Refused(u8, usize),
 }
 
 // The name of a definition, if it has one.
@@ -149,7 +149,7 @@ pub struct Header {
 
 pub enum HeaderReading {
     Done(Header, usize),
-    Stop(usize),
+    Refused(usize),
 }
 
 fn role_of(keyword: Keyword) -> Role
@@ -376,7 +376,7 @@ pub fn read_name(text: &[u8], at: usize) -> NameReading
         };
         return NameReading::Done(name, token.end);
     }
-    NameReading::Stop(token.start)
+    NameReading::Refused(token.start)
 }
 
 // The closing bracket behind an array's numbers.
@@ -388,7 +388,7 @@ fn close_array(text: &[u8], at: usize, array: Array) -> ArrayReading
     if is_mark(word, Mark::CloseBracket) {
         return ArrayReading::Done(array, token.end);
     }
-    ArrayReading::Stop(3, token.start)
+    ArrayReading::Refused(3, token.start)
 }
 
 // What follows the first number of an array whose bracket stands at `bracket`.
@@ -401,13 +401,13 @@ fn read_array_rest(text: &[u8], at: usize, bracket: usize, left: Number) -> Arra
         return ArrayReading::Done(Array::Size(bracket, left), token.end);
     }
     if !is_mark(word, Mark::Colon) {
-        return ArrayReading::Stop(3, token.start);
+        return ArrayReading::Refused(3, token.start);
     }
     match expressions::read_number(text, token.end) {
         NumberReading::Done(right, next) => {
             close_array(text, next, Array::Range(bracket, left, right))
         }
-        NumberReading::Stop(number, place) => ArrayReading::Stop(number, place),
+        NumberReading::Refused(number, place) => ArrayReading::Refused(number, place),
     }
 }
 
@@ -422,7 +422,7 @@ fn read_array(text: &[u8], at: usize) -> ArrayReading
     }
     match expressions::read_number(text, token.end) {
         NumberReading::Done(left, next) => read_array_rest(text, next, token.start, left),
-        NumberReading::Stop(number, place) => ArrayReading::Stop(number, place),
+        NumberReading::Refused(number, place) => ArrayReading::Refused(number, place),
     }
 }
 
@@ -450,7 +450,7 @@ fn read_suffix(text: &[u8], at: usize, kind: SuffixKind) -> SuffixReading
         NumberReading::Done(number, next) => {
             SuffixReading::Done(Suffix::Given(token.start, number), next)
         }
-        NumberReading::Stop(number, place) => SuffixReading::Stop(number, place),
+        NumberReading::Refused(number, place) => SuffixReading::Refused(number, place),
     }
 }
 
@@ -502,7 +502,7 @@ fn read_suffixes(text: &[u8], at: usize, name: Name, array: Array) -> InstanceRe
         return InstanceReading::Done(instance_of(name, array, none, none, none, none), at);
     }
     match read_suffix(text, at, SuffixKind::Reset) {
-        SuffixReading::Stop(number, place) => InstanceReading::Stop(number, place),
+        SuffixReading::Refused(number, place) => InstanceReading::Refused(number, place),
         SuffixReading::Done(reset, next) => read_placing(text, next, name, array, reset),
     }
 }
@@ -512,12 +512,15 @@ fn read_placing(text: &[u8], at: usize, name: Name, array: Array, reset: Suffix)
     ensures { λ r. ⌜ instanceRead r ≡ placingAt (now (text .entry)) (ok (setSuffix SuffixKind.Reset reset (bare name array)) at) ⌝ }
 {
     match read_suffix(text, at, SuffixKind::Address) {
-        SuffixReading::Stop(number, place) => InstanceReading::Stop(number, place),
+        SuffixReading::Refused(number, place) => InstanceReading::Refused(number, place),
         SuffixReading::Done(address, first) => match read_suffix(text, first, SuffixKind::Stride) {
-            SuffixReading::Stop(number, place) => InstanceReading::Stop(number, place),
+            SuffixReading::Refused(number, place) => InstanceReading::Refused(number, place),
             SuffixReading::Done(stride, second) => {
                 match read_suffix(text, second, SuffixKind::Alignment) {
-                    SuffixReading::Stop(number, place) => InstanceReading::Stop(number, place),
+                    SuffixReading::Refused(number, place) => InstanceReading::Refused(
+                        number,
+                        place,
+                    ),
                     SuffixReading::Done(alignment, last) => InstanceReading::Done(
                         instance_of(name, array, reset, address, stride, alignment),
                         last,
@@ -533,7 +536,7 @@ fn read_named(text: &[u8], at: usize, name: Name) -> InstanceReading
 {
     match read_array(text, at) {
         ArrayReading::Done(array, next) => read_suffixes(text, next, name, array),
-        ArrayReading::Stop(number, place) => InstanceReading::Stop(number, place),
+        ArrayReading::Refused(number, place) => InstanceReading::Refused(number, place),
     }
 }
 
@@ -543,40 +546,40 @@ pub fn read_instance(text: &[u8], at: usize) -> InstanceReading
 {
     match read_name(text, at) {
         NameReading::Done(name, next) => read_named(text, next, name),
-        NameReading::Stop(place) => InstanceReading::Stop(3, place),
+        NameReading::Refused(place) => InstanceReading::Refused(3, place),
     }
 }
 
 // The mark behind an instance of a list.
-fn read_parted(text: &[u8], at: usize, instance: Instance) -> ListedReading
+fn read_parted(text: &[u8], at: usize, instance: Instance) -> ListItemReading
     ensures { λ r. ⌜ listedRead r ≡ partedAt instance (now (text .entry)) at ⌝ }
 {
     let token = lex::next_token(text, at);
     let word = token.word;
     if is_mark(word, Mark::Semicolon) {
-        let listed = Listed {
+        let listed = ListItem {
             instance,
             last: true,
         };
-        return ListedReading::Done(listed, token.end);
+        return ListItemReading::Done(listed, token.end);
     }
     if is_mark(word, Mark::Comma) {
-        let listed = Listed {
+        let listed = ListItem {
             instance,
             last: false,
         };
-        return ListedReading::Done(listed, token.end);
+        return ListItemReading::Done(listed, token.end);
     }
-    ListedReading::Stop(3, token.start)
+    ListItemReading::Refused(3, token.start)
 }
 
 // An instance of a list, with the comma or semicolon behind it.
-pub fn read_listed(text: &[u8], at: usize) -> ListedReading
+pub fn read_listed(text: &[u8], at: usize) -> ListItemReading
     ensures { λ r. ⌜ listedRead r ≡ listedAt (now (text .entry)) at ⌝ }
 {
     match read_instance(text, at) {
         InstanceReading::Done(instance, next) => read_parted(text, next, instance),
-        InstanceReading::Stop(number, place) => ListedReading::Stop(number, place),
+        InstanceReading::Refused(number, place) => ListItemReading::Refused(number, place),
     }
 }
 
@@ -614,15 +617,15 @@ fn read_value(text: &[u8], at: usize) -> ValueReading
         ValueLookup::IsValue(value) => ValueReading::Done(value, token.end),
         ValueLookup::NoValue => match expressions::read_number(text, at) {
             NumberReading::Done(number, next) => ValueReading::Done(Value::Number(number), next),
-            NumberReading::Stop(number, place) => ValueReading::Stop(number, place),
+            NumberReading::Refused(number, place) => ValueReading::Refused(number, place),
         },
     }
 }
 
-fn make_property(defaulted: bool, key: Token, value: Value) -> Property
+fn make_property(defaulted: bool, key: Token, value: Value) -> Assignment
     ensures { λ r. ⌜ r ≡ property defaulted key value ⌝ }
 {
-    Property {
+    Assignment {
         defaulted,
         start: key.start,
         end: key.end,
@@ -631,40 +634,40 @@ fn make_property(defaulted: bool, key: Token, value: Value) -> Property
 }
 
 // The semicolon behind a property's value.
-fn close_setting(text: &[u8], at: usize, property: Property) -> PropertyReading
+fn close_setting(text: &[u8], at: usize, property: Assignment) -> AssignmentReading
     ensures { λ r. ⌜ propertyRead r ≡ closedBy Mark.Semicolon property (now (text .entry)) at ⌝ }
 {
     let token = lex::next_token(text, at);
     let word = token.word;
     if is_mark(word, Mark::Semicolon) {
-        return PropertyReading::Done(property, token.end);
+        return AssignmentReading::Done(property, token.end);
     }
-    PropertyReading::Stop(3, token.start)
+    AssignmentReading::Refused(3, token.start)
 }
 
 // What follows a property word.
-fn read_setting(text: &[u8], at: usize, defaulted: bool, key: Token) -> PropertyReading
+fn read_setting(text: &[u8], at: usize, defaulted: bool, key: Token) -> AssignmentReading
     ensures { λ r. ⌜ propertyRead r ≡ settingAt defaulted key (now (text .entry)) at ⌝ }
 {
     let token = lex::next_token(text, at);
     let word = token.word;
     if is_mark(word, Mark::Semicolon) {
         let property = make_property(defaulted, key, Value::Missing);
-        return PropertyReading::Done(property, token.end);
+        return AssignmentReading::Done(property, token.end);
     }
     if !is_mark(word, Mark::Equals) {
-        return PropertyReading::Stop(3, token.start);
+        return AssignmentReading::Refused(3, token.start);
     }
     match read_value(text, token.end) {
         ValueReading::Done(value, next) => {
             close_setting(text, next, make_property(defaulted, key, value))
         }
-        ValueReading::Stop(number, place) => PropertyReading::Stop(number, place),
+        ValueReading::Refused(number, place) => AssignmentReading::Refused(number, place),
     }
 }
 
 // A property word and what follows it.
-fn read_property_word(text: &[u8], at: usize, defaulted: bool) -> PropertyReading
+fn read_property_word(text: &[u8], at: usize, defaulted: bool) -> AssignmentReading
     ensures { λ r. ⌜ propertyRead r ≡ propertyWordAt defaulted (now (text .entry)) at ⌝ }
 {
     let token = lex::next_token(text, at);
@@ -672,11 +675,11 @@ fn read_property_word(text: &[u8], at: usize, defaulted: bool) -> PropertyReadin
     if is_property(word) {
         return read_setting(text, token.end, defaulted, token);
     }
-    PropertyReading::Stop(3, token.start)
+    AssignmentReading::Refused(3, token.start)
 }
 
 // A property statement.
-pub fn read_property(text: &[u8], at: usize) -> PropertyReading
+pub fn read_property(text: &[u8], at: usize) -> AssignmentReading
     ensures { λ r. ⌜ propertyRead r ≡ propertyAt (now (text .entry)) at ⌝ }
 {
     let token = lex::next_token(text, at);
@@ -703,12 +706,12 @@ fn read_header_rest(text: &[u8], at: usize, kind: Kind, place: usize) -> HeaderR
         return HeaderReading::Done(header, token.end);
     }
     if !is_name(word) {
-        return HeaderReading::Stop(token.start);
+        return HeaderReading::Refused(token.start);
     }
     let brace = lex::next_token(text, token.end);
     let second = brace.word;
     if !is_mark(second, Mark::OpenBrace) {
-        return HeaderReading::Stop(brace.start);
+        return HeaderReading::Refused(brace.start);
     }
     let name = Name {
         start: token.start,
@@ -731,7 +734,7 @@ pub fn read_header(text: &[u8], at: usize) -> HeaderReading
     let word = token.word;
     match kind_of(word) {
         KindLookup::IsKind(kind) => read_header_rest(text, token.end, kind, token.start),
-        KindLookup::NoKind => HeaderReading::Stop(token.start),
+        KindLookup::NoKind => HeaderReading::Refused(token.start),
     }
 }
 

@@ -2,10 +2,10 @@
 use mathlib.Core.Bool.{Bool, true, false}
 use Prim.Native.Nat.{ℕ}
 use lib.Dec.{eqb}
-use Rattle.settings.specs.declared.Slot.{Slot}
-use Rattle.settings.specs.declared.Slot.the-variants as slot
-use Rattle.properties.specs.declared.Given.{Given}
-use Rattle.properties.specs.declared.Given.the-variants.{Nothing, Number}
+use Rattle.property_values.specs.declared.Slot.{Slot}
+use Rattle.property_values.specs.declared.Slot.the-variants as slot
+use Rattle.basics.specs.declared.Given.{Given}
+use Rattle.basics.specs.declared.Given.the-variants.{Nothing, Number}
 use Rattle.properties.specs.declared.Settings.{Settings}
 use Rattle.properties.specs.declared.Assigned.{Assigned}
 
@@ -34,15 +34,6 @@ givenIn s slot.Alignment = s .alignment
 givenIn s slot.Addressing = s .addressing
 givenIn s slot.Name = s .name
 givenIn s slot.Desc = s .desc
-
-abbrev pub isGiven : Given → Bool
-isGiven Nothing = false
-isGiven (Number n) = true
-
--- the number, or the standard's
-abbrev pub orElse : ℕ → Given → ℕ
-orElse standard Nothing = standard
-orElse standard (Number n) = n
 
 abbrev pub replaced : Bool → ℕ → Given → Given
 replaced true n old = Number n

@@ -1,21 +1,16 @@
 // The property statements of a body: what each sets, and its fault by 7, 8 or 9.
+use basics::Given;
 use expressions::Refusal;
+use parts::Assignment;
 use parts::Kind;
-use parts::Property as Statement;
-use settings::Setting;
-use settings::Slot;
+use property_values::Setting;
+use property_values::Slot;
 use vocabulary::Property;
 use vocabulary::PropertyLookup;
 ghost use mathlib.Core.Path.{_≡_};
 ghost use lib.Dec.{eqb};
-ghost use Rattle.properties.specs.Assigned.{slotNumber, givenIn, isGiven, orElse, replaced, assign, nearer, nearest, noSettings, nothingAssigned, settingsOf, assigned};
+ghost use Rattle.properties.specs.Assigned.{slotNumber, givenIn, replaced, assign, nearer, nearest, noSettings, nothingAssigned, settingsOf, assigned};
 ghost use Rattle.properties.specs.Properties.{judgeValue, judgeSettled, judgeKnown, judgeProperty, judgedAs};
-
-// Whether a property is set, and to which number.
-pub enum Given {
-    Nothing,
-    Number(u64),
-}
 
 // What each property is set to.
 pub struct Settings {
@@ -39,9 +34,9 @@ pub struct Assigned {
 }
 
 // A fault's number and place, or what is set after a property statement.
-pub enum Outcome {
-    Fault(u8, usize),
-    Fine(Assigned),
+pub enum PropertyJudged {
+    Refused(u8, usize),
+    Done(Assigned),
 }
 
 fn slot_number(slot: Slot) -> u8
@@ -78,25 +73,6 @@ fn given_in(settings: Settings, slot: Slot) -> Given
         Slot::Addressing => settings.addressing,
         Slot::Name => settings.name,
         Slot::Desc => settings.desc,
-    }
-}
-
-pub fn is_given(given: Given) -> bool
-    ensures { λ r. ⌜ r ≡ isGiven given ⌝ }
-{
-    match given {
-        Given::Nothing => false,
-        Given::Number(_) => true,
-    }
-}
-
-// The number that is given, or the standard's.
-pub fn or_else(standard: u64, given: Given) -> u64
-    ensures { λ r. ⌜ r ≡ orElse standard given ⌝ }
-{
-    match given {
-        Given::Nothing => standard,
-        Given::Number(number) => number,
     }
 }
 
@@ -242,16 +218,21 @@ fn assign_to(defaulted: bool, before: Assigned, slot: Slot, number: u64) -> Assi
     Assigned { own, defaults }
 }
 
-fn judge_value(before: Assigned, statement: Statement, slot: Slot, setting: Setting) -> Outcome
+fn judge_value(
+    before: Assigned,
+    statement: Assignment,
+    slot: Slot,
+    setting: Setting,
+) -> PropertyJudged
     ensures { λ r. ⌜ judgedAs r ≡ judgeValue before statement slot setting ⌝ }
 {
     match setting {
         Setting::Set(number) => {
-            Outcome::Fine(assign_to(statement.defaulted, before, slot, number))
+            PropertyJudged::Done(assign_to(statement.defaulted, before, slot, number))
         }
         Setting::Wrong => {
             let value = statement.value;
-            Outcome::Fault(9, settings::value_place(statement.start, value))
+            PropertyJudged::Refused(9, property_values::value_place(statement.start, value))
         }
     }
 }
@@ -259,46 +240,56 @@ fn judge_value(before: Assigned, statement: Statement, slot: Slot, setting: Sett
 // No range over a refused part is judged.
 fn judge_settled(
     before: Assigned,
-    statement: Statement,
+    statement: Assignment,
     slot: Slot,
     refusal: Refusal,
     setting: Setting,
-) -> Outcome
+) -> PropertyJudged
     ensures { λ r. ⌜ judgedAs r ≡ judgeSettled before statement slot refusal setting ⌝ }
 {
     match refusal {
         Refusal::Nowhere => judge_value(before, statement, slot, setting),
-        Refusal::AtOperator(place) => Outcome::Fault(9, place),
+        Refusal::AtOperator(place) => PropertyJudged::Refused(9, place),
     }
 }
 
-fn judge_known(kind: Kind, before: Assigned, statement: Statement, property: Property) -> Outcome
+fn judge_known(
+    kind: Kind,
+    before: Assigned,
+    statement: Assignment,
+    property: Property,
+) -> PropertyJudged
     ensures { λ r. ⌜ judgedAs r ≡ judgeKnown kind before statement (PropertyLookup.Known property) ⌝ }
 {
-    if !settings::is_allowed(statement.defaulted, property, kind) {
-        return Outcome::Fault(7, statement.start);
+    if !property_values::is_allowed(statement.defaulted, property, kind) {
+        return PropertyJudged::Refused(7, statement.start);
     }
-    let slot = settings::slot_of(property);
-    if is_given(given_in(settings_of(statement.defaulted, before), slot)) {
-        return Outcome::Fault(8, statement.start);
+    let slot = property_values::slot_of(property);
+    if basics::is_given(given_in(settings_of(statement.defaulted, before), slot)) {
+        return PropertyJudged::Refused(8, statement.start);
     }
     let value = statement.value;
-    let refusal = settings::refusal_in(property, value);
+    let refusal = property_values::refusal_in(property, value);
     judge_settled(
         before,
         statement,
         slot,
         refusal,
-        settings::setting_of(property, value),
+        property_values::setting_of(property, value),
     )
 }
 
 // A property statement in a body of a component of this kind, with what is set before it.
-pub fn judge_property(text: &[u8], kind: Kind, before: Assigned, statement: Statement) -> Outcome
+pub fn judge_property(
+    text: &[u8],
+    kind: Kind,
+    before: Assigned,
+    statement: Assignment,
+) -> PropertyJudged
     ensures { λ r. ⌜ judgedAs r ≡ judgeProperty (now (text .entry)) kind before statement ⌝ }
 {
-    match vocabulary::property_of(names::bytes_of(text, statement.start, statement.end)) {
-        PropertyLookup::Unknown => Outcome::Fault(7, statement.start),
+    match vocabulary::property_of(identifiers::bytes_of(text, statement.start, statement.end)) {
+        PropertyLookup::Unknown => PropertyJudged::Refused(7, statement.start),
         PropertyLookup::Known(property) => judge_known(kind, before, statement, property),
     }
 }

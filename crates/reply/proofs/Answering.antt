@@ -8,29 +8,30 @@ use lib.Dec.{ltb}
 use lib.ListN.{length, getD, take, drop, length-append, replicate, length-replicate}
 use lib.Seq.{take-at}
 use borrow.Author.Tests.{le-ltb}
-use Rattle.chars.specs.Choice.{if_then_else_}
+use Rattle.basics.specs.Choice.{if_then_else_}
 use Rattle.lex.specs.declared.Place.{Place}
-use Rattle.properties.specs.Judged.{Judged, fault, fine}
+use Rattle.basics.specs.Judged.{Judged, fault, fine}
+use Rattle.basics.specs.Limits.{registerLimit, fieldLimit, registerRowWidth, fieldRowWidth, nameWidth, pathRowWidth}
 use Rattle.rows.specs.Rows.{Map, Tables, tables, tablesOf}
 use Rattle.rows.specs.Reading.{rowsIn}
-use Rattle.faithful.specs.Sound.{fieldsIn, SoundMap}
-use Rattle.faithful.proofs.Tables.{length-registerTable, length-pathTable, length-fieldTable, length-labelTable}
+use Rattle.row_laws.specs.Sound.{fieldsIn, SoundMap}
+use Rattle.row_laws.proofs.Tables.{length-registerTable, length-pathTable, length-fieldTable, length-labelTable}
 use Rattle.listing.specs.declared.Listed.the-variants as listed
 use Rattle.listing.specs.Listing.{listingOf, listed}
 use Rattle.compile.specs.declared.Compiled.{Compiled}
 use Rattle.compile.specs.declared.Compiled.the-variants.{Refused, Accepted}
 use Rattle.compile.specs.Compiled.{compiled, isShort, refused, answered, over, overAll, lentAfter, compiledNumbers}
-use Rattle.lawful.proofs.Lawful.{accepted-sound, accepted-lawful, accepted-read}
+use Rattle.compile_laws.proofs.Lawful.{accepted-sound, accepted-lawful, accepted-read}
 use Rattle.reply.specs.Reply.{refusalLine, shown, replyTo, shownOf, Shows}
 
 -- tables that hold the rows of every map
 pub record Large (lent : Tables) : Type 0 where
-  pub registers : 14336 ≤ length (lent .registers)
-  pub paths : 294912 ≤ length (lent .paths)
-  pub fields : 32768 ≤ length (lent .fields)
-  pub labels : 131072 ≤ length (lent .labels)
+  pub registers : registerLimit * registerRowWidth ≤ length (lent .registers)
+  pub paths : registerLimit * pathRowWidth ≤ length (lent .paths)
+  pub fields : fieldLimit * fieldRowWidth ≤ length (lent .fields)
+  pub labels : fieldLimit * nameWidth ≤ length (lent .labels)
 
-pub zeros-large : (a b c d : ℕ) → 14336 ≤ a → 294912 ≤ b → 32768 ≤ c → 131072 ≤ d → Large (tables (replicate a 0) (replicate b 0) (replicate c 0) (replicate d 0))
+pub zeros-large : (a b c d : ℕ) → registerLimit * registerRowWidth ≤ a → registerLimit * pathRowWidth ≤ b → fieldLimit * fieldRowWidth ≤ c → fieldLimit * nameWidth ≤ d → Large (tables (replicate a 0) (replicate b 0) (replicate c 0) (replicate d 0))
 zeros-large a b c d h i j k =
     record {
       registers = rw (length-replicate {A = ℕ} a 0) h;
@@ -44,21 +45,21 @@ abbrev part : ℕ → List ℕ → List ℕ
 part n xs = take (n - 0) (drop 0 xs)
 
 -- an accepted text: its map, and where its rows stand
-pub record Holds (text : List ℕ) (after : Tables) (count all : ℕ) : Type 0 where
+pub record AcceptedRows (text : List ℕ) (after : Tables) (count all : ℕ) : Type 0 where
   pub map : Map
   pub same : compiled text ≡ fine map
-  pub few-numbers : count * 14 < 2 ^ 64
-  pub few-paths : count * 288 < 2 ^ 64
-  pub few-fields : all * 8 < 2 ^ 64
-  pub few-labels : all * 32 < 2 ^ 64
-  pub registers : part (count * 14) (after .registers) ≡ tablesOf map .registers
-  pub paths : part (count * 288) (after .paths) ≡ tablesOf map .paths
-  pub fields : part (all * 8) (after .fields) ≡ tablesOf map .fields
-  pub labels : part (all * 32) (after .labels) ≡ tablesOf map .labels
-  pub registers-fit : count * 14 ≤ length (after .registers)
-  pub paths-fit : count * 288 ≤ length (after .paths)
-  pub fields-fit : all * 8 ≤ length (after .fields)
-  pub labels-fit : all * 32 ≤ length (after .labels)
+  pub few-numbers : count * registerRowWidth < 2 ^ 64
+  pub few-paths : count * pathRowWidth < 2 ^ 64
+  pub few-fields : all * fieldRowWidth < 2 ^ 64
+  pub few-labels : all * nameWidth < 2 ^ 64
+  pub registers : part (count * registerRowWidth) (after .registers) ≡ tablesOf map .registers
+  pub paths : part (count * pathRowWidth) (after .paths) ≡ tablesOf map .paths
+  pub fields : part (all * fieldRowWidth) (after .fields) ≡ tablesOf map .fields
+  pub labels : part (all * nameWidth) (after .labels) ≡ tablesOf map .labels
+  pub registers-fit : count * registerRowWidth ≤ length (after .registers)
+  pub paths-fit : count * pathRowWidth ≤ length (after .paths)
+  pub fields-fit : all * fieldRowWidth ≤ length (after .fields)
+  pub labels-fit : all * nameWidth ≤ length (after .labels)
 
 none-short : {a b c d : Bool} → a ≡ false → b ≡ false → c ≡ false → d ≡ false → ((a || b) || (c || d)) ≡ false
 none-short e f g h = rw (e, f, g, h)
@@ -111,10 +112,10 @@ module _ (text : List ℕ) (lent : Tables) (l : Large lent) where
             absurd (let x : _≡_ {A = ℕ} 0 1 = cc in omega arith)
 
     -- an accepted text's rows stand in the tables
-    pub accepted-holds : (after : Tables) {count all : ℕ} → after ≡ lentAfter lent (compiled text) → r ≡ Accepted count all → Holds text after count all
+    pub accepted-holds : (after : Tables) {count all : ℕ} → after ≡ lentAfter lent (compiled text) → r ≡ Accepted count all → AcceptedRows text after count all
     accepted-holds after {count} {all} w z = by (compiled text) refl
       where
-        by : (j : Judged Map) → compiled text ≡ j → Holds text after count all
+        by : (j : Judged Map) → compiled text ≡ j → AcceptedRows text after count all
         by (fault k q) e =
             let y : Accepted count all ≡ refused k q = sym z ∙ a ∙ fault-answer k q e in
             absurd (let x : _≡_ {A = ℕ} 0 1 = cc in omega arith)
@@ -124,10 +125,10 @@ module _ (text : List ℕ) (lent : Tables) (l : Large lent) where
             let c : count ≡ length (m .entries) = ap (λ (x : Compiled). getD (compiledNumbers x) 2 0) y in
             let f : all ≡ fieldsIn (m .entries) = ap (λ (x : Compiled). getD (compiledNumbers x) 3 0) y in
             let t : after ≡ overAll (tablesOf m) lent = w ∙ fine-tables m e in
-            let n1 : length (tablesOf m .registers) ≡ count * 14 = omega (arith, length-registerTable 0 (m .entries), c) in
-            let n2 : length (tablesOf m .paths) ≡ count * 288 = omega (arith, length-pathTable (m .name) (m .entries), c) in
-            let n3 : length (tablesOf m .fields) ≡ all * 8 = omega (arith, length-fieldTable (m .entries), f) in
-            let n4 : length (tablesOf m .labels) ≡ all * 32 = omega (arith, length-labelTable (m .entries), f) in
+            let n1 : length (tablesOf m .registers) ≡ count * registerRowWidth = omega (arith, length-registerTable 0 (m .entries), c) in
+            let n2 : length (tablesOf m .paths) ≡ count * pathRowWidth = omega (arith, length-pathTable (m .name) (m .entries), c) in
+            let n3 : length (tablesOf m .fields) ≡ all * fieldRowWidth = omega (arith, length-fieldTable (m .entries), f) in
+            let n4 : length (tablesOf m .labels) ≡ all * nameWidth = omega (arith, length-labelTable (m .entries), f) in
             record {
               map = m;
               same = e;
@@ -135,10 +136,10 @@ module _ (text : List ℕ) (lent : Tables) (l : Large lent) where
               few-paths = omega (arith, c, s .few);
               few-fields = omega (arith, f, s .fields);
               few-labels = omega (arith, f, s .fields);
-              registers = ap (λ (x : Tables). part (count * 14) (x .registers)) t ∙ part-over (tablesOf m .registers) (lent .registers) n1;
-              paths = ap (λ (x : Tables). part (count * 288) (x .paths)) t ∙ part-over (tablesOf m .paths) (lent .paths) n2;
-              fields = ap (λ (x : Tables). part (all * 8) (x .fields)) t ∙ part-over (tablesOf m .fields) (lent .fields) n3;
-              labels = ap (λ (x : Tables). part (all * 32) (x .labels)) t ∙ part-over (tablesOf m .labels) (lent .labels) n4;
+              registers = ap (λ (x : Tables). part (count * registerRowWidth) (x .registers)) t ∙ part-over (tablesOf m .registers) (lent .registers) n1;
+              paths = ap (λ (x : Tables). part (count * pathRowWidth) (x .paths)) t ∙ part-over (tablesOf m .paths) (lent .paths) n2;
+              fields = ap (λ (x : Tables). part (all * fieldRowWidth) (x .fields)) t ∙ part-over (tablesOf m .fields) (lent .fields) n3;
+              labels = ap (λ (x : Tables). part (all * nameWidth) (x .labels)) t ∙ part-over (tablesOf m .labels) (lent .labels) n4;
               registers-fit = rw t (part-fits (tablesOf m .registers) (lent .registers) n1);
               paths-fit = rw t (part-fits (tablesOf m .paths) (lent .paths) n2);
               fields-fit = rw t (part-fits (tablesOf m .fields) (lent .fields) n3);
@@ -166,17 +167,17 @@ module _ (text : List ℕ) (m : Map) (e : compiled text ≡ fine m) (room : ℕ)
       by true = refl
       by false = refl
 
-pub reply-accepted : {text : List ℕ} {t : Tables} {number all count : ℕ} {before after : List ℕ} → Holds text t number all
+pub reply-accepted : {text : List ℕ} {t : Tables} {number all count : ℕ} {before after : List ℕ} → AcceptedRows text t number all
     → Shows before after
-    (shownOf (listingOf (rowsIn (tables (part (number * 14) (t .registers)) (part (number * 288) (t .paths)) (part (all * 8) (t .fields)) (part (all * 32) (t .labels)))))
-    (listed (length before) (tables (part (number * 14) (t .registers)) (part (number * 288) (t .paths)) (part (all * 8) (t .fields)) (part (all * 32) (t .labels))))) count
+    (shownOf (listingOf (rowsIn (tables (part (number * registerRowWidth) (t .registers)) (part (number * pathRowWidth) (t .paths)) (part (all * fieldRowWidth) (t .fields)) (part (all * nameWidth) (t .labels)))))
+    (listed (length before) (tables (part (number * registerRowWidth) (t .registers)) (part (number * pathRowWidth) (t .paths)) (part (all * fieldRowWidth) (t .fields)) (part (all * nameWidth) (t .labels))))) count
     → (count ≡ length (replyTo (length before) text)) × (after ≡ over (replyTo (length before) text) before)
 unfolding replyTo
 reply-accepted {text} {t} {number} {all} {count} {before} {after} h s =
-    let k : tables (part (number * 14) (t .registers)) (part (number * 288) (t .paths)) (part (all * 8) (t .fields)) (part (all * 32) (t .labels)) ≡ tablesOf (h .map)
+    let k : tables (part (number * registerRowWidth) (t .registers)) (part (number * pathRowWidth) (t .paths)) (part (all * fieldRowWidth) (t .fields)) (part (all * nameWidth) (t .labels)) ≡ tablesOf (h .map)
     = λ i. record { registers = h .registers i; paths = h .paths i; fields = h .fields i; labels = h .labels i } in
-    let e : shownOf (listingOf (rowsIn (tables (part (number * 14) (t .registers)) (part (number * 288) (t .paths)) (part (all * 8) (t .fields)) (part (all * 32) (t .labels)))))
-    (listed (length before) (tables (part (number * 14) (t .registers)) (part (number * 288) (t .paths)) (part (all * 8) (t .fields)) (part (all * 32) (t .labels))))
+    let e : shownOf (listingOf (rowsIn (tables (part (number * registerRowWidth) (t .registers)) (part (number * pathRowWidth) (t .paths)) (part (all * fieldRowWidth) (t .fields)) (part (all * nameWidth) (t .labels)))))
+    (listed (length before) (tables (part (number * registerRowWidth) (t .registers)) (part (number * pathRowWidth) (t .paths)) (part (all * fieldRowWidth) (t .fields)) (part (all * nameWidth) (t .labels))))
     ≡ shown (length before) (compiled text)
     = ap (λ (x : Tables). shownOf (listingOf (rowsIn x)) (listed (length before) x)) k ∙ accepted-shown text (h .map) (h .same) (length before) in (
       s .count-of ∙ ap (λ (x : List ℕ). length (take (length before) x)) e,

@@ -9,7 +9,7 @@ use lib.ListN.{length, take, drop, take-append-drop}
 use lib.Seq.{length-take-le, take-all}
 use borrow.Author.Tests.{leb-true, leb-false, le-leb, ltb-false}
 use Rattle.chars.specs.Ascii.{bytes}
-use Rattle.chars.specs.Choice.{if_then_else_}
+use Rattle.basics.specs.Choice.{if_then_else_}
 use Rattle.rows.specs.Rows.{Tables}
 use Rattle.rows.specs.Lawful.{lawful}
 use Rattle.rows.specs.Reading.{rowsIn}

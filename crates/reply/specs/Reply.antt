@@ -5,8 +5,8 @@ use Prim.Native.Nat.{ℕ}
 use lib.Dec.{ltb}
 use lib.ListN.{length, take}
 use Rattle.chars.specs.Ascii.{bytes}
-use Rattle.chars.specs.Choice.{if_then_else_}
-use Rattle.properties.specs.Judged.{Judged, fault, fine}
+use Rattle.basics.specs.Choice.{if_then_else_}
+use Rattle.basics.specs.Judged.{Judged, fault, fine}
 use Rattle.rows.specs.Rows.{Map}
 use Rattle.lines.specs.Text.{decimal}
 use Rattle.listing.specs.Listing.{listingOf, listed}

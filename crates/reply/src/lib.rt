@@ -11,13 +11,13 @@ ghost use Rattle.compile.specs.Compiled.{over};
 ghost use Rattle.reply.specs.Reply.{refusalLine, replyTo, shownOf, Shows};
 
 // The rows that the tables of a program hold: as many as a map may have.
-const REGISTERS: usize = 14336;
+const REGISTERS: usize = basics::REGISTER_LIMIT * basics::REGISTER_ROW_WIDTH;
 
-const PATHS: usize = 294912;
+const PATHS: usize = basics::REGISTER_LIMIT * basics::PATH_ROW_WIDTH;
 
-const FIELDS: usize = 32768;
+const FIELDS: usize = basics::FIELD_LIMIT * basics::FIELD_ROW_WIDTH;
 
-const LABELS: usize = 131072;
+const LABELS: usize = basics::FIELD_LIMIT * basics::NAME_WIDTH;
 
 // The line `refused=N at=P`.
 fn write_refusal(out: &mut [u8], number: u64, at: u64) -> usize
@@ -61,10 +61,10 @@ pub fn reply(text: &[u8], out: &mut [u8]) -> usize
     match compile::compile(text, &mut registers, &mut paths, &mut fields, &mut labels) {
         Compiled::Refused(number, place) => write_refusal(out, number as u64, place.at as u64),
         Compiled::Accepted(count, all) => write_listing(
-            &registers[0..count * rows::REGISTER_ROW],
-            &paths[0..count * rows::PATH_ROW],
-            &fields[0..all * rows::FIELD_ROW],
-            &labels[0..all * rows::NAME_ROW],
+            &registers[0..count * basics::REGISTER_ROW_WIDTH],
+            &paths[0..count * basics::PATH_ROW_WIDTH],
+            &fields[0..all * basics::FIELD_ROW_WIDTH],
+            &labels[0..all * basics::NAME_WIDTH],
             out,
         ),
     }

@@ -7,6 +7,7 @@ use native.Mathlib.Omega.{arith}
 use lib.Dec.{eqb}
 use lib.ListN.{length}
 use borrow.Author.Tests.{eqb-true, eqb-false}
+use Rattle.basics.specs.Limits.{registerRowWidth, fieldRowWidth}
 use Rattle.chars.proofs.Laws.{and-left, and-right}
 use Rattle.rows.specs.Rows.{Tables}
 use Rattle.rows.specs.declared.RegisterRow.{RegisterRow}
@@ -37,11 +38,11 @@ rows-each t all i first (suc n) e j l m =
     by false q rest = let z : j ≡ i → ⊥ = eqb-false j i q in rest (omega arith) (omega arith)
 
 -- each register row of lawful rows
-pub register-each : (t : Tables) → lawful t ≡ true → (i : ℕ) → i < length (t .registers) / 14
-    → isRegisterRow t (length (t .fields) / 8) i (registerRow (t .registers) i .first) ≡ true
+pub register-each : (t : Tables) → lawful t ≡ true → (i : ℕ) → i < length (t .registers) / registerRowWidth
+    → isRegisterRow t (length (t .fields) / fieldRowWidth) i (registerRow (t .registers) i .first) ≡ true
 unfolding lawful
 register-each t e i h =
-    rows-each t (length (t .fields) / 8) 0 0 (length (t .registers) / 14)
+    rows-each t (length (t .fields) / fieldRowWidth) 0 0 (length (t .registers) / registerRowWidth)
     (and-right (areWhole (length (t .registers)) (length (t .paths)) (length (t .fields)) (length (t .labels))) _ e) i (omega arith) (omega arith)
 
 -- each field row of a run

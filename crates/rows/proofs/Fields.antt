@@ -6,12 +6,14 @@ use Prim.Native.Nat.{ℕ, suc, _+_, _-_, _*_, _<_, _≤_}
 use native.Mathlib.Omega.{arith}
 use lib.Dec.{eqb, leb}
 use borrow.Author.Tests.{eq-eqb, ne-eqb, le-leb, lt-leb, not-true, not-false}
-use Rattle.properties.specs.declared.Given.{Given}
-use Rattle.components.specs.declared.FieldAt.{FieldAt}
-use Rattle.components.specs.declared.FieldType.{FieldType}
-use Rattle.components.specs.declared.Probe.the-variants.{Wide}
-use Rattle.components.specs.Fields.{hasUnusableEffect, isOutside, breaks}
-use Rattle.table.specs.Cells.{cellOf, givenFrom}
+use Rattle.basics.specs.declared.Given.{Given}
+use Rattle.fields.specs.declared.FieldAt.{FieldAt}
+use Rattle.fields.specs.declared.FieldType.{FieldType}
+use Rattle.fields.specs.declared.Probe.the-variants.{Wide}
+use Rattle.fields.specs.Fields.{hasUnusableEffect, isOutside, breaks}
+use Rattle.basics.specs.Slices.{cellOf}
+use Rattle.basics.specs.Given.{givenFrom}
+use Rattle.basics.specs.Limits.{fieldRowWidth, nameWidth}
 use Rattle.rows.specs.Lawful.{isName, fieldValues, fieldRow, isRanged, isSoundField, isResetForm, isFieldRow, areFieldRows}
 
 -- a field of cells
@@ -20,7 +22,7 @@ pub values-made : (t : List ℕ) (at : ℕ) {a b c d e f : ℕ} {g : Given} → 
 unfolding fieldValues
 values-made t at p2 p3 p4 p5 p6 p7 q = rw (q, p2, p3, p4, p5, p6, p7)
 
-pub field-made : (t : List ℕ) (j : ℕ) {a b : ℕ} {v : FieldType} → a ≡ cellOf t (j * 8) → b ≡ cellOf t (j * 8 + 1) → v ≡ fieldValues t (j * 8)
+pub field-made : (t : List ℕ) (j : ℕ) {a b : ℕ} {v : FieldType} → a ≡ cellOf t (j * fieldRowWidth) → b ≡ cellOf t (j * fieldRowWidth + 1) → v ≡ fieldValues t (j * fieldRowWidth)
     → record { low = record { 0 = a }; high = record { 0 = b }; values = v } ≡ fieldRow t j
 unfolding fieldRow
 field-made t j e f g = rw (e, f, g)
@@ -100,15 +102,15 @@ module _ (fields labels : List ℕ) (width j : ℕ) {f : FieldAt} {r : Bool} (p 
     unfolding isFieldRow
     row-sound z = rw (sym row-ranged ∙ not-false r y, sym row-is-sound ∙ not-true s z)
 
-    module _ {a b : ℕ} {u : Bool} (z : not s ≡ false) (h : a ≡ cellOf fields (j * 8 + 6)) (i : b ≡ cellOf fields (j * 8 + 7)) (k : u ≡ isResetForm a b) where
-      row-formed : u ≡ isResetForm (cellOf fields (j * 8 + 6)) (cellOf fields (j * 8 + 7))
+    module _ {a b : ℕ} {u : Bool} (z : not s ≡ false) (h : a ≡ cellOf fields (j * fieldRowWidth + 6)) (i : b ≡ cellOf fields (j * fieldRowWidth + 7)) (k : u ≡ isResetForm a b) where
+      row-formed : u ≡ isResetForm (cellOf fields (j * fieldRowWidth + 6)) (cellOf fields (j * fieldRowWidth + 7))
       row-formed = rw (← h, ← i) k
 
       pub row-form : not u ≡ true → false ≡ isFieldRow fields labels width j
       unfolding isFieldRow
       row-form w = rw (sym row-ranged ∙ not-false r y, sym row-is-sound ∙ not-false s z, sym row-formed ∙ not-true u w)
 
-      pub row-label : {v : Bool} → not u ≡ false → v ≡ isName labels (j * 32) → v ≡ isFieldRow fields labels width j
+      pub row-label : {v : Bool} → not u ≡ false → v ≡ isName labels (j * nameWidth) → v ≡ isFieldRow fields labels width j
       unfolding isFieldRow
       row-label w l = rw (sym row-ranged ∙ not-false r y, sym row-is-sound ∙ not-false s z, sym row-formed ∙ not-false u w) l
 

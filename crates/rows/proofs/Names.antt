@@ -9,7 +9,8 @@ use lib.Dec.{eqb, leb}
 use borrow.Author.Tests.{eq-eqb, ne-eqb, lt-ltb, le-ltb, le-leb, lt-leb, not-true, not-false}
 use Rattle.chars.specs.Ascii.{isLetter, isNameByte}
 use Rattle.chars.proofs.Laws.{and-false}
-use Rattle.table.specs.Cells.{cellOf}
+use Rattle.basics.specs.Slices.{cellOf}
+use Rattle.basics.specs.Limits.{nameLimit, arrayLimit, nameWidth}
 use Rattle.rows.specs.Lawful.{follows, allFollow, isName, areZero, isPathCell, areNames, isIndex, areIndices, areSame}
 
 and-true : (p : Bool) → p ≡ (p && true)
@@ -86,12 +87,12 @@ module _ (t : List ℕ) (at : ℕ) {a : ℕ} {r : Bool} (e : a ≡ cellOf t at) 
   unfolding isName
   name-first y = rw (sym name-letter ∙ not-true r y)
 
-  module _ {s : Bool} (y : not r ≡ false) (g : s ≡ allFollow t at 31) where
+  module _ {s : Bool} (y : not r ≡ false) (g : s ≡ allFollow t at nameLimit) where
     pub name-rest : not s ≡ true → false ≡ isName t at
     unfolding isName
     name-rest z = rw (sym name-letter ∙ not-false r y, sym g ∙ not-true s z)
 
-    pub name-last : {b : ℕ} → not s ≡ false → b ≡ cellOf t (at + 31) → eqb b 0 ≡ isName t at
+    pub name-last : {b : ℕ} → not s ≡ false → b ≡ cellOf t (at + nameLimit) → eqb b 0 ≡ isName t at
     unfolding isName
     name-last z h = rw (sym name-letter ∙ not-false r y, sym g ∙ not-false s z, h)
 
@@ -122,7 +123,7 @@ module _ (t : List ℕ) (depth at k : ℕ) {r : Bool} where
   unfolding isPathCell
   cell-name h e = rw (le-leb k depth h) e
 
-  pub cell-zero : depth < k → r ≡ areZero t at 32 → r ≡ isPathCell t depth at k
+  pub cell-zero : depth < k → r ≡ areZero t at nameWidth → r ≡ isPathCell t depth at k
   unfolding isPathCell
   cell-zero h e = rw (lt-leb k depth h) e
 
@@ -136,15 +137,15 @@ module _ (t : List ℕ) (depth at k count : ℕ) {x : Bool} (left : areNames t d
     unfolding areNames
     names-stop y = rw (left-more count k h, sym e ∙ not-true r y) at left
 
-    pub names-on : not r ≡ false → areNames t depth (at + 32) (k + 1) (count - (k + 1)) ≡ x
+    pub names-on : not r ≡ false → areNames t depth (at + nameWidth) (k + 1) (count - (k + 1)) ≡ x
     unfolding areNames
-    names-on y = ap (λ (m : ℕ). areNames t depth (at + 32) m (count - (k + 1))) (next-k k) ∙ (rw (left-more count k h, sym e ∙ not-false r y) at left)
+    names-on y = ap (λ (m : ℕ). areNames t depth (at + nameWidth) m (count - (k + 1))) (next-k k) ∙ (rw (left-more count k h, sym e ∙ not-false r y) at left)
 
 pub ruleset name-loop = (names-end, names-stop, names-on)
 
 -- an index, and the indices from the k-th on
 module _ (depth k index : ℕ) where
-  pub index-some : k < depth → leb index 1024 ≡ isIndex depth k index
+  pub index-some : k < depth → leb index arrayLimit ≡ isIndex depth k index
   unfolding isIndex
   index-some h = rw (lt-ltb k depth h)
 

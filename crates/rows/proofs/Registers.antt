@@ -8,14 +8,15 @@ use lib.Dec.{eqb, leb, ltb}
 use lib.ListN.{length}
 use borrow.Author.Tests.{eq-eqb, ne-eqb, lt-ltb, le-ltb, le-leb, lt-leb, leb-true, leb-false, eqb-true, not-true, not-false}
 use Rattle.chars.proofs.Laws.{and-left, and-right}
-use Rattle.settings.specs.Settings.{isWidth}
-use Rattle.table.specs.Cells.{cellOf}
+use Rattle.fields.specs.Codes.{isWidth}
+use Rattle.basics.specs.Slices.{cellOf}
+use Rattle.basics.specs.Limits.{addressEnd, nestLimit, registerLimit, fieldLimit, registerRowWidth, fieldRowWidth, nameWidth, pathRowWidth}
 use Rattle.rows.specs.Rows.{Tables}
 use Rattle.rows.specs.declared.RegisterRow.{RegisterRow}
 use Rattle.rows.specs.Lawful.{areNames, areIndices, areSame, registerRow, isPlaced, isRun, isPath, areFieldRows, isRegisterRow, areRows, areWhole, lawful}
 
-pub register-made : (t : List ℕ) (i : ℕ) {a b c d e f : ℕ} → a ≡ cellOf t (i * 14) → b ≡ cellOf t (i * 14 + 1) → c ≡ cellOf t (i * 14 + 2) → d ≡ cellOf t (i * 14 + 3)
-    → e ≡ cellOf t (i * 14 + 4) → f ≡ cellOf t (i * 14 + 5)
+pub register-made : (t : List ℕ) (i : ℕ) {a b c d e f : ℕ} → a ≡ cellOf t (i * registerRowWidth) → b ≡ cellOf t (i * registerRowWidth + 1) → c ≡ cellOf t (i * registerRowWidth + 2) → d ≡ cellOf t (i * registerRowWidth + 3)
+    → e ≡ cellOf t (i * registerRowWidth + 4) → f ≡ cellOf t (i * registerRowWidth + 5)
     → record { address = record { 0 = a }; width = b; access = c; first = d; count = e; depth = f } ≡ registerRow t i
 unfolding registerRow
 register-made t i p0 p1 p2 p3 p4 p5 = rw (p0, p1, p2, p3, p4, p5)
@@ -65,13 +66,13 @@ module _ (row : RegisterRow) {r : Bool} (e : r ≡ isWidth (row .width)) where
         placed-part q = rw (sym e ∙ not-false r y, sym f ∙ not-false s z, le-leb (row .access) (row .width) h, ne-eqb (row .address .0 % (row .access / 8)) 0 q)
 
         module _ (q : row .address .0 % (row .access / 8) ≡ 0) where
-          pub placed-above : 4294967296 < row .address .0 → false ≡ isPlaced row
+          pub placed-above : addressEnd < row .address .0 → false ≡ isPlaced row
           unfolding isPlaced
           placed-above l =
-              let m : leb (row .address .0 + row .width / 8) 4294967296 ≡ false = lt-leb (row .address .0 + row .width / 8) 4294967296 (omega arith) in
+              let m : leb (row .address .0 + row .width / 8) addressEnd ≡ false = lt-leb (row .address .0 + row .width / 8) addressEnd (omega arith) in
               rw (sym e ∙ not-false r y, sym f ∙ not-false s z, le-leb (row .access) (row .width) h, eq-eqb (row .address .0 % (row .access / 8)) 0 q, m)
 
-          pub placed-end : leb (row .address .0 + row .width / 8) 4294967296 ≡ isPlaced row
+          pub placed-end : leb (row .address .0 + row .width / 8) addressEnd ≡ isPlaced row
           unfolding isPlaced
           placed-end = rw (sym e ∙ not-false r y, sym f ∙ not-false s z, le-leb (row .access) (row .width) h, eq-eqb (row .address .0 % (row .access / 8)) 0 q)
 
@@ -112,23 +113,23 @@ module _ (registers paths : List ℕ) (i depth : ℕ) where
     some-names : ltb 0 depth ≡ true
     some-names = lt-ltb 0 depth (omega arith)
 
-    pub path-deep : 8 < depth → false ≡ isPath registers paths i depth
+    pub path-deep : nestLimit < depth → false ≡ isPath registers paths i depth
     unfolding isPath
-    path-deep h = rw (some-names, lt-leb depth 8 h)
+    path-deep h = rw (some-names, lt-leb depth nestLimit h)
 
-    module _ {r : Bool} (h : depth ≤ 8) (e : r ≡ areIndices registers depth (i * 14 + 6) 0 8) where
+    module _ {r : Bool} (h : depth ≤ nestLimit) (e : r ≡ areIndices registers depth (i * registerRowWidth + 6) 0 nestLimit) where
       pub path-indices : not r ≡ true → false ≡ isPath registers paths i depth
       unfolding isPath
-      path-indices y = rw (some-names, le-leb depth 8 h, sym e ∙ not-true r y)
+      path-indices y = rw (some-names, le-leb depth nestLimit h, sym e ∙ not-true r y)
 
-      module _ {s : Bool} (y : not r ≡ false) (g : s ≡ areNames paths depth (i * 288) 0 9) where
+      module _ {s : Bool} (y : not r ≡ false) (g : s ≡ areNames paths depth (i * pathRowWidth) 0 (nestLimit + 1)) where
         pub path-names : not s ≡ true → false ≡ isPath registers paths i depth
         unfolding isPath
-        path-names z = rw (some-names, le-leb depth 8 h, sym e ∙ not-false r y, sym g ∙ not-true s z)
+        path-names z = rw (some-names, le-leb depth nestLimit h, sym e ∙ not-false r y, sym g ∙ not-true s z)
 
-        pub path-same : {u : Bool} → not s ≡ false → u ≡ areSame paths 0 (i * 288) 32 → u ≡ isPath registers paths i depth
+        pub path-same : {u : Bool} → not s ≡ false → u ≡ areSame paths 0 (i * pathRowWidth) nameWidth → u ≡ isPath registers paths i depth
         unfolding isPath
-        path-same z k = rw (some-names, le-leb depth 8 h, sym e ∙ not-false r y, sym g ∙ not-false s z) k
+        path-same z k = rw (some-names, le-leb depth nestLimit h, sym e ∙ not-false r y, sym g ∙ not-false s z) k
 
 -- a register's row
 module _ (t : Tables) (all i first : ℕ) {row : RegisterRow} {r : Bool} (p : row ≡ registerRow (t .registers) i) (e : r ≡ isPlaced row) where
@@ -170,8 +171,8 @@ pub run-fits : (all first : ℕ) (row : RegisterRow) {s : Bool} → s ≡ isRun 
 run-fits all first row {s} e z = run-within all first row (sym e ∙ not-false s z)
 
 -- what the fields of its run ask
-pub run-asks : (all first : ℕ) (row : RegisterRow) {r s : Bool} → all ≤ 4096 → r ≡ isPlaced row → not r ≡ false → s ≡ isRun all first row → not s ≡ false
-    → (row .width ≤ 64) × (first + row .count ≤ 4096)
+pub run-asks : (all first : ℕ) (row : RegisterRow) {r s : Bool} → all ≤ fieldLimit → r ≡ isPlaced row → not r ≡ false → s ≡ isRun all first row → not s ≡ false
+    → (row .width ≤ 64) × (first + row .count ≤ fieldLimit)
 run-asks all first row h e y f z = (placed-most row e y, omega (arith, run-fits all first row f z))
 
 row-within : (t : Tables) (all i first : ℕ) → isRegisterRow t all i first ≡ true → first + registerRow (t .registers) i .count ≤ all
@@ -212,54 +213,54 @@ module _ (t : Tables) (all i first count : ℕ) {x : Bool} (left : areRows t all
 
 -- whole tables
 module _ (registers paths fields labels : ℕ) where
-  pub whole-registers : 1024 < registers / 14 → false ≡ areWhole registers paths fields labels
+  pub whole-registers : registerLimit < registers / registerRowWidth → false ≡ areWhole registers paths fields labels
   unfolding areWhole
-  whole-registers h = rw (lt-leb (registers / 14) 1024 h)
+  whole-registers h = rw (lt-leb (registers / registerRowWidth) registerLimit h)
 
-  module _ (a : registers / 14 ≤ 1024) where
-    pub whole-fields : 4096 < fields / 8 → false ≡ areWhole registers paths fields labels
+  module _ (a : registers / registerRowWidth ≤ registerLimit) where
+    pub whole-fields : fieldLimit < fields / fieldRowWidth → false ≡ areWhole registers paths fields labels
     unfolding areWhole
-    whole-fields h = rw (le-leb (registers / 14) 1024 a, lt-leb (fields / 8) 4096 h)
+    whole-fields h = rw (le-leb (registers / registerRowWidth) registerLimit a, lt-leb (fields / fieldRowWidth) fieldLimit h)
 
-    module _ (b : fields / 8 ≤ 4096) where
-      pub whole-none : registers / 14 ≡ 0 → false ≡ areWhole registers paths fields labels
+    module _ (b : fields / fieldRowWidth ≤ fieldLimit) where
+      pub whole-none : registers / registerRowWidth ≡ 0 → false ≡ areWhole registers paths fields labels
       unfolding areWhole
-      whole-none h = rw (le-leb (registers / 14) 1024 a, le-leb (fields / 8) 4096 b, le-ltb 0 (registers / 14) (omega arith))
+      whole-none h = rw (le-leb (registers / registerRowWidth) registerLimit a, le-leb (fields / fieldRowWidth) fieldLimit b, le-ltb 0 (registers / registerRowWidth) (omega arith))
 
-      module _ (c : registers / 14 ≡ 0 → ⊥) where
-        some-rows : ltb 0 (registers / 14) ≡ true
-        some-rows = lt-ltb 0 (registers / 14) (omega arith)
+      module _ (c : registers / registerRowWidth ≡ 0 → ⊥) where
+        some-rows : ltb 0 (registers / registerRowWidth) ≡ true
+        some-rows = lt-ltb 0 (registers / registerRowWidth) (omega arith)
 
-        pub whole-register : (registers ≡ registers / 14 * 14 → ⊥) → false ≡ areWhole registers paths fields labels
+        pub whole-register : (registers ≡ registers / registerRowWidth * registerRowWidth → ⊥) → false ≡ areWhole registers paths fields labels
         unfolding areWhole
-        whole-register h = rw (le-leb (registers / 14) 1024 a, le-leb (fields / 8) 4096 b, some-rows, ne-eqb registers (registers / 14 * 14) h)
+        whole-register h = rw (le-leb (registers / registerRowWidth) registerLimit a, le-leb (fields / fieldRowWidth) fieldLimit b, some-rows, ne-eqb registers (registers / registerRowWidth * registerRowWidth) h)
 
-        module _ (d : registers ≡ registers / 14 * 14) where
-          pub whole-path : (paths ≡ registers / 14 * 288 → ⊥) → false ≡ areWhole registers paths fields labels
+        module _ (d : registers ≡ registers / registerRowWidth * registerRowWidth) where
+          pub whole-path : (paths ≡ registers / registerRowWidth * pathRowWidth → ⊥) → false ≡ areWhole registers paths fields labels
           unfolding areWhole
-          whole-path h = rw (le-leb (registers / 14) 1024 a, le-leb (fields / 8) 4096 b, some-rows, eq-eqb registers (registers / 14 * 14) d, ne-eqb paths (registers / 14 * 288) h)
+          whole-path h = rw (le-leb (registers / registerRowWidth) registerLimit a, le-leb (fields / fieldRowWidth) fieldLimit b, some-rows, eq-eqb registers (registers / registerRowWidth * registerRowWidth) d, ne-eqb paths (registers / registerRowWidth * pathRowWidth) h)
 
-          module _ (e : paths ≡ registers / 14 * 288) where
-            pub whole-field : (fields ≡ fields / 8 * 8 → ⊥) → false ≡ areWhole registers paths fields labels
+          module _ (e : paths ≡ registers / registerRowWidth * pathRowWidth) where
+            pub whole-field : (fields ≡ fields / fieldRowWidth * fieldRowWidth → ⊥) → false ≡ areWhole registers paths fields labels
             unfolding areWhole
             whole-field h =
-                rw (le-leb (registers / 14) 1024 a, le-leb (fields / 8) 4096 b, some-rows, eq-eqb registers (registers / 14 * 14) d, eq-eqb paths (registers / 14 * 288) e, ne-eqb fields (fields / 8 * 8) h)
+                rw (le-leb (registers / registerRowWidth) registerLimit a, le-leb (fields / fieldRowWidth) fieldLimit b, some-rows, eq-eqb registers (registers / registerRowWidth * registerRowWidth) d, eq-eqb paths (registers / registerRowWidth * pathRowWidth) e, ne-eqb fields (fields / fieldRowWidth * fieldRowWidth) h)
 
-            pub whole-label : fields ≡ fields / 8 * 8 → eqb labels (fields / 8 * 32) ≡ areWhole registers paths fields labels
+            pub whole-label : fields ≡ fields / fieldRowWidth * fieldRowWidth → eqb labels (fields / fieldRowWidth * nameWidth) ≡ areWhole registers paths fields labels
             unfolding areWhole
             whole-label h =
-                rw (le-leb (registers / 14) 1024 a, le-leb (fields / 8) 4096 b, some-rows, eq-eqb registers (registers / 14 * 14) d, eq-eqb paths (registers / 14 * 288) e, eq-eqb fields (fields / 8 * 8) h)
+                rw (le-leb (registers / registerRowWidth) registerLimit a, le-leb (fields / fieldRowWidth) fieldLimit b, some-rows, eq-eqb registers (registers / registerRowWidth * registerRowWidth) d, eq-eqb paths (registers / registerRowWidth * pathRowWidth) e, eq-eqb fields (fields / fieldRowWidth * fieldRowWidth) h)
 
   module _ {r : Bool} (e : r ≡ areWhole registers paths fields labels) (y : not r ≡ false) where
-    whole-limits : (leb (registers / 14) 1024 && leb (fields / 8) 4096) ≡ true
+    whole-limits : (leb (registers / registerRowWidth) registerLimit && leb (fields / fieldRowWidth) fieldLimit) ≡ true
     unfolding areWhole
-    whole-limits = and-left (leb (registers / 14) 1024 && leb (fields / 8) 4096) _ (sym e ∙ not-false r y)
+    whole-limits = and-left (leb (registers / registerRowWidth) registerLimit && leb (fields / fieldRowWidth) fieldLimit) _ (sym e ∙ not-false r y)
 
-    pub few-registers : registers / 14 ≤ 1024
-    few-registers = leb-true (registers / 14) 1024 (and-left (leb (registers / 14) 1024) (leb (fields / 8) 4096) whole-limits)
+    pub few-registers : registers / registerRowWidth ≤ registerLimit
+    few-registers = leb-true (registers / registerRowWidth) registerLimit (and-left (leb (registers / registerRowWidth) registerLimit) (leb (fields / fieldRowWidth) fieldLimit) whole-limits)
 
-    pub few-fields : fields / 8 ≤ 4096
-    few-fields = leb-true (fields / 8) 4096 (and-right (leb (registers / 14) 1024) (leb (fields / 8) 4096) whole-limits)
+    pub few-fields : fields / fieldRowWidth ≤ fieldLimit
+    few-fields = leb-true (fields / fieldRowWidth) fieldLimit (and-right (leb (registers / registerRowWidth) registerLimit) (leb (fields / fieldRowWidth) fieldLimit) whole-limits)
 
 -- lawful rows
 module _ (t : Tables) {r : Bool} (e : r ≡ areWhole (length (t .registers)) (length (t .paths)) (length (t .fields)) (length (t .labels))) where
@@ -267,6 +268,6 @@ module _ (t : Tables) {r : Bool} (e : r ≡ areWhole (length (t .registers)) (le
   unfolding lawful
   lawful-not y = rw (sym e ∙ not-true r y)
 
-  pub lawful-rows : {s : Bool} → not r ≡ false → s ≡ areRows t (length (t .fields) / 8) 0 0 (length (t .registers) / 14) → s ≡ lawful t
+  pub lawful-rows : {s : Bool} → not r ≡ false → s ≡ areRows t (length (t .fields) / fieldRowWidth) 0 0 (length (t .registers) / registerRowWidth) → s ≡ lawful t
   unfolding lawful
   lawful-rows y f = rw (sym e ∙ not-false r y) f

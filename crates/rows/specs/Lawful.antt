@@ -7,13 +7,14 @@ use Prim.Native.Nat.{ℕ, zero, suc, _+_, _*_, _/_, _%_}
 use lib.Dec.{eqb, leb, ltb}
 use lib.ListN.{length}
 use Rattle.chars.specs.Ascii.{isLetter, isNameByte}
-use Rattle.chars.specs.Choice.{if_then_else_}
-use Rattle.settings.specs.Settings.{isWidth}
-use Rattle.components.specs.declared.FieldAt.{FieldAt}
-use Rattle.components.specs.declared.FieldType.{FieldType}
-use Rattle.components.specs.Fields.{hasUnusableEffect, isResetWide, isOutside}
-use Rattle.table.specs.Cells.{cellOf, givenFrom}
-use Rattle.rows.specs.Limits.{nestLimit, registerLimit, fieldLimit, elementLimit, addressLimit}
+use Rattle.basics.specs.Choice.{if_then_else_}
+use Rattle.fields.specs.Codes.{isWidth}
+use Rattle.fields.specs.declared.FieldAt.{FieldAt}
+use Rattle.fields.specs.declared.FieldType.{FieldType}
+use Rattle.fields.specs.Fields.{hasUnusableEffect, isResetWide, isOutside}
+use Rattle.basics.specs.Slices.{cellOf}
+use Rattle.basics.specs.Given.{givenFrom}
+use Rattle.basics.specs.Limits.{nestLimit, registerLimit, fieldLimit, arrayLimit, addressEnd, nameLimit, registerRowWidth, fieldRowWidth, nameWidth, pathRowWidth}
 use Rattle.rows.specs.Rows.{Tables}
 use Rattle.rows.specs.declared.RegisterRow.{RegisterRow}
 
@@ -28,7 +29,7 @@ allFollow t at (suc n) = follows (cellOf t at) (cellOf t (suc at)) && allFollow 
 
 -- the 32 bytes from an index on are a name
 unfoldable pub isName : List ℕ → ℕ → Bool
-isName t at = isLetter (cellOf t at) && (allFollow t at 31 && eqb (cellOf t (at + 31)) 0)
+isName t at = isLetter (cellOf t at) && (allFollow t at nameLimit && eqb (cellOf t (at + nameLimit)) 0)
 
 unfoldable pub areZero : List ℕ → ℕ → ℕ → Bool
 areZero t at zero = true
@@ -36,16 +37,16 @@ areZero t at (suc n) = eqb (cellOf t at) 0 && areZero t (suc at) n
 
 -- the k-th cell of a path: a name as far as the path goes, the map's the 0th, then zeros
 unfoldable pub isPathCell : List ℕ → ℕ → ℕ → ℕ → Bool
-isPathCell t depth at k = if leb k depth then isName t at else areZero t at 32
+isPathCell t depth at k = if leb k depth then isName t at else areZero t at nameWidth
 
 -- the cells of a path from the k-th on, `n` of them
 unfoldable pub areNames : List ℕ → ℕ → ℕ → ℕ → ℕ → Bool
 areNames t depth at k zero = true
-areNames t depth at k (suc n) = isPathCell t depth at k && areNames t depth (at + 32) (suc k) n
+areNames t depth at k (suc n) = isPathCell t depth at k && areNames t depth (at + nameWidth) (suc k) n
 
 -- the k-th index: in range as far as the path goes, then 0
 unfoldable pub isIndex : ℕ → ℕ → ℕ → Bool
-isIndex depth k index = if ltb k depth then leb index elementLimit else eqb index 0
+isIndex depth k index = if ltb k depth then leb index arrayLimit else eqb index 0
 
 -- the indices from the k-th on, `n` of them
 unfoldable pub areIndices : List ℕ → ℕ → ℕ → ℕ → ℕ → Bool
@@ -61,19 +62,19 @@ areSame t a b (suc n) = eqb (cellOf t a) (cellOf t b) && areSame t (suc a) (suc 
 unfoldable pub registerRow : List ℕ → ℕ → RegisterRow
 registerRow t i =
     record {
-      address = record { 0 = cellOf t (i * 14) };
-      width = cellOf t (i * 14 + 1);
-      access = cellOf t (i * 14 + 2);
-      first = cellOf t (i * 14 + 3);
-      count = cellOf t (i * 14 + 4);
-      depth = cellOf t (i * 14 + 5);
+      address = record { 0 = cellOf t (i * registerRowWidth) };
+      width = cellOf t (i * registerRowWidth + 1);
+      access = cellOf t (i * registerRowWidth + 2);
+      first = cellOf t (i * registerRowWidth + 3);
+      count = cellOf t (i * registerRowWidth + 4);
+      depth = cellOf t (i * registerRowWidth + 5);
     }
 
 -- the widths' ranges, 14, and 20: "on a multiple of its access bytes", "last byte" at most 2^32-1
 unfoldable pub isPlaced : RegisterRow → Bool
 isPlaced r =
     isWidth (r .width) && (isWidth (r .access) && (leb (r .access) (r .width) &&
-    (eqb (r .address .0 % (r .access / 8)) 0 && leb (r .address .0 + r .width / 8) addressLimit)))
+    (eqb (r .address .0 % (r .access / 8)) 0 && leb (r .address .0 + r .width / 8) addressEnd)))
 
 -- a run of field rows, not empty, from the field row `first` on, among `all`
 unfoldable pub isRun : ℕ → ℕ → RegisterRow → Bool
@@ -82,8 +83,8 @@ isRun all first r = eqb (r .first) first && (ltb 0 (r .count) && leb (first + r 
 -- a path of 1 to 8 names below the map, whose name is the first row's
 unfoldable pub isPath : List ℕ → List ℕ → ℕ → ℕ → Bool
 isPath registers paths i depth =
-    ltb 0 depth && (leb depth nestLimit && (areIndices registers depth (i * 14 + 6) 0 8 &&
-    (areNames paths depth (i * 288) 0 9 && areSame paths 0 (i * 288) 32)))
+    ltb 0 depth && (leb depth nestLimit && (areIndices registers depth (i * registerRowWidth + 6) 0 nestLimit &&
+    (areNames paths depth (i * pathRowWidth) 0 (nestLimit + 1) && areSame paths 0 (i * pathRowWidth) nameWidth)))
 
 -- a field of a field row
 unfoldable pub fieldValues : List ℕ → ℕ → FieldType
@@ -97,7 +98,7 @@ fieldValues t at =
     }
 
 unfoldable pub fieldRow : List ℕ → ℕ → FieldAt
-fieldRow t j = record { low = record { 0 = cellOf t (j * 8) }; high = record { 0 = cellOf t (j * 8 + 1) }; values = fieldValues t (j * 8) }
+fieldRow t j = record { low = record { 0 = cellOf t (j * fieldRowWidth) }; high = record { 0 = cellOf t (j * fieldRowWidth + 1) }; values = fieldValues t (j * fieldRowWidth) }
 
 -- the ranges of access and effects
 unfoldable pub isRanged : FieldAt → Bool
@@ -114,7 +115,7 @@ isResetForm flag reset = leb flag 1 && (eqb flag 1 || eqb reset 0)
 unfoldable pub isFieldRow : List ℕ → List ℕ → ℕ → ℕ → Bool
 isFieldRow fields labels width j =
     isRanged (fieldRow fields j) && (isSoundField width (fieldRow fields j) &&
-    (isResetForm (cellOf fields (j * 8 + 6)) (cellOf fields (j * 8 + 7)) && isName labels (j * 32)))
+    (isResetForm (cellOf fields (j * fieldRowWidth + 6)) (cellOf fields (j * fieldRowWidth + 7)) && isName labels (j * nameWidth)))
 
 unfoldable pub areFieldRows : List ℕ → List ℕ → ℕ → ℕ → ℕ → Bool
 areFieldRows fields labels width j zero = true
@@ -134,11 +135,11 @@ areRows t all i first (suc n) = isRegisterRow t all i first && areRows t all (su
 -- tables of these lengths have whole rows only, and 18 for registers and fields
 unfoldable pub areWhole : ℕ → ℕ → ℕ → ℕ → Bool
 areWhole registers paths fields labels =
-    let n = registers / 14 in
-    let all = fields / 8 in
-    (leb n registerLimit && leb all fieldLimit) && (ltb 0 n && ((eqb registers (n * 14) && eqb paths (n * 288)) && (eqb fields (all * 8) && eqb labels (all * 32))))
+    let n = registers / registerRowWidth in
+    let all = fields / fieldRowWidth in
+    (leb n registerLimit && leb all fieldLimit) && (ltb 0 n && ((eqb registers (n * registerRowWidth) && eqb paths (n * pathRowWidth)) && (eqb fields (all * fieldRowWidth) && eqb labels (all * nameWidth))))
 
 unfoldable pub lawful : Tables → Bool
 lawful t =
     areWhole (length (t .registers)) (length (t .paths)) (length (t .fields)) (length (t .labels)) &&
-    areRows t (length (t .fields) / 8) 0 0 (length (t .registers) / 14)
+    areRows t (length (t .fields) / fieldRowWidth) 0 0 (length (t .registers) / registerRowWidth)

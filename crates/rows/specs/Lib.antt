@@ -1,4 +1,3 @@
-pub mod Limits
 pub mod Rows
 pub mod Lawful
 pub mod Reading

@@ -3,10 +3,11 @@ use mathlib.Core.List.{List, [], _∷_}
 use Prim.Native.Nat.{ℕ, zero, suc, _+_, _-_, _*_, _/_}
 use lib.Dec.{eqb}
 use lib.ListN.{length}
-use Rattle.chars.specs.Choice.{if_then_else_}
-use Rattle.properties.specs.declared.Given.{Given}
-use Rattle.properties.specs.declared.Given.the-variants.{Nothing, Number}
-use Rattle.table.specs.Cells.{cellOf}
+use Rattle.basics.specs.Choice.{if_then_else_}
+use Rattle.basics.specs.declared.Given.{Given}
+use Rattle.basics.specs.declared.Given.the-variants.{Nothing, Number}
+use Rattle.basics.specs.Slices.{cellOf}
+use Rattle.basics.specs.Limits.{registerRowWidth, nameWidth, pathRowWidth}
 use Rattle.rows.specs.Rows.{Step, Field, Entry, Map, Tables}
 use Rattle.rows.specs.Lawful.{registerRow, fieldRow}
 
@@ -16,7 +17,7 @@ nameFrom t at zero = []
 nameFrom t at (suc n) = if eqb (cellOf t at) 0 then [] else (cellOf t at ∷ nameFrom t (suc at) n)
 
 abbrev pub nameAt : List ℕ → ℕ → List ℕ
-nameAt t at = nameFrom t at 32
+nameAt t at = nameFrom t at nameWidth
 
 abbrev pub indexFrom : ℕ → Given
 indexFrom code = if eqb code 0 then Nothing else Number (code - 1)
@@ -25,14 +26,14 @@ indexFrom code = if eqb code 0 then Nothing else Number (code - 1)
 unfoldable pub stepsFrom : List ℕ → List ℕ → ℕ → ℕ → ℕ → List Step
 stepsFrom registers paths index name zero = []
 stepsFrom registers paths index name (suc n) =
-    record { name = nameAt paths name; index = indexFrom (cellOf registers index) } ∷ stepsFrom registers paths (suc index) (name + 32) n
+    record { name = nameAt paths name; index = indexFrom (cellOf registers index) } ∷ stepsFrom registers paths (suc index) (name + nameWidth) n
 
 abbrev pub pathIn : List ℕ → List ℕ → ℕ → List Step
-pathIn registers paths i = stepsFrom registers paths (i * 14 + 6) (i * 288 + 32) (registerRow registers i .depth)
+pathIn registers paths i = stepsFrom registers paths (i * registerRowWidth + 6) (i * pathRowWidth + nameWidth) (registerRow registers i .depth)
 
 unfoldable pub fieldsFrom : List ℕ → List ℕ → ℕ → ℕ → List Field
 fieldsFrom fields labels j zero = []
-fieldsFrom fields labels j (suc n) = record { name = nameAt labels (j * 32); at = fieldRow fields j } ∷ fieldsFrom fields labels (suc j) n
+fieldsFrom fields labels j (suc n) = record { name = nameAt labels (j * nameWidth); at = fieldRow fields j } ∷ fieldsFrom fields labels (suc j) n
 
 abbrev pub entryIn : Tables → ℕ → Entry
 entryIn t i =
@@ -49,4 +50,4 @@ entriesFrom t i zero = []
 entriesFrom t i (suc n) = entryIn t i ∷ entriesFrom t (suc i) n
 
 abbrev pub rowsIn : Tables → Map
-rowsIn t = record { name = nameAt (t .paths) 0; entries = entriesFrom t 0 (length (t .registers) / 14) }
+rowsIn t = record { name = nameAt (t .paths) 0; entries = entriesFrom t 0 (length (t .registers) / registerRowWidth) }

@@ -3,12 +3,13 @@
 use mathlib.Core.List.{List, [], _∷_, _++_}
 use Prim.Native.Nat.{ℕ, zero, suc, _+_}
 use lib.ListN.{length}
-use Rattle.properties.specs.declared.Given.{Given}
-use Rattle.properties.specs.declared.Given.the-variants.{Nothing, Number}
-use Rattle.components.specs.declared.Offset.{Offset}
-use Rattle.components.specs.declared.Register.{Register}
-use Rattle.components.specs.declared.FieldAt.{FieldAt}
-use Rattle.table.specs.Cells.{flagOf, numberOf}
+use Rattle.basics.specs.declared.Given.{Given}
+use Rattle.basics.specs.declared.Given.the-variants.{Nothing, Number}
+use Rattle.fields.specs.declared.Offset.{Offset}
+use Rattle.fields.specs.declared.Register.{Register}
+use Rattle.fields.specs.declared.FieldAt.{FieldAt}
+use Rattle.basics.specs.Given.{flagOf, numberOf}
+use Rattle.basics.specs.Limits.{nestLimit, nameWidth, pathRowWidth}
 
 -- a step of a path: a name's bytes, and an element's index in an array
 pub record Step : Type 0 where
@@ -49,7 +50,7 @@ indices (s ∷ path) = indexCode (s .index) ∷ indices path
 
 -- a name in 32 bytes
 abbrev pub nameCell : List ℕ → List ℕ
-nameCell name = padded 32 name
+nameCell name = padded nameWidth name
 
 unfoldable pub nameCells : List Step → List ℕ
 nameCells [] = []
@@ -59,11 +60,11 @@ nameCells (s ∷ path) = nameCell (s .name) ++ nameCells path
 -- then 8 indices
 unfoldable pub registerCells : ℕ → Entry → List ℕ
 registerCells first e =
-    e .address .0 ∷ e .register .width ∷ e .register .access ∷ first ∷ length (e .fields) ∷ length (e .path) ∷ padded 8 (indices (e .path))
+    e .address .0 ∷ e .register .width ∷ e .register .access ∷ first ∷ length (e .fields) ∷ length (e .path) ∷ padded nestLimit (indices (e .path))
 
 -- its path in 9 cells of 32 bytes, the map's name first
 unfoldable pub pathCells : List ℕ → Entry → List ℕ
-pathCells name e = padded 288 (nameCell name ++ nameCells (e .path))
+pathCells name e = padded pathRowWidth (nameCell name ++ nameCells (e .path))
 
 -- a field's row of 8 numbers: low bit, high bit, `sw`, `hw`, `onread`, `onwrite`, whether a reset is given, the reset
 unfoldable pub fieldCells : FieldAt → List ℕ

@@ -1,27 +1,20 @@
 // The rows of a map in four tables, and whether rows are lawful.
 // A register's row has 14 numbers, its path 9 names of 32 bytes; a field's row has 8 numbers, its label is a name of 32 bytes.
-use components::BitPlace;
-use components::FieldAt;
-use components::FieldType;
-use components::Offset;
-use components::Probe;
+use fields::BitPlace;
+use fields::FieldAt;
+use fields::FieldType;
+use fields::Offset;
+use fields::Probe;
 ghost use mathlib.Core.Path.{_≡_};
-ghost use Prim.Native.Nat.{_+_, _*_, _≤_, _<_};
+ghost use Prim.Native.Nat.{_+_, _*_, _≤_};
+ghost use Rattle.basics.specs.Limits.{nestLimit, registerLimit, fieldLimit, fieldRowWidth, indexBound, sumBound};
 ghost use Rattle.rows.specs.Rows.{tables};
 ghost use Rattle.rows.specs.Lawful.{follows, allFollow, isName, areZero, areNames, areIndices, areSame, registerRow, isPlaced, isRun, isPath, isPathCell, isIndex, fieldRow, fieldValues, isRanged, isSoundField, isResetForm, isFieldRow, areFieldRows, isRegisterRow, areRows, areWhole, lawful};
 
-// The numbers of a register's row and of a field's row, the bytes of a path and of a name.
-pub const REGISTER_ROW: usize = 14;
+// The steps that a path may have below the map, and its names: the map's and those of the steps.
+const STEPS: u64 = basics::NEST_LIMIT as u64;
 
-pub const FIELD_ROW: usize = 8;
-
-pub const PATH_ROW: usize = 288;
-
-pub const NAME_ROW: usize = 32;
-
-pub const REGISTER_LIMIT: usize = 1024;
-
-pub const FIELD_LIMIT: usize = 4096;
+const NAMES: u64 = STEPS + 1;
 
 // A register's address, widths, first field row and number of field rows, and the number of names below the map.
 pub struct RegisterRow {
@@ -47,7 +40,7 @@ fn follows_byte(before: u8, byte: u8) -> bool
 }
 
 fn all_follow(bytes: &[u8], start: usize, count: usize) -> bool
-    requires { ⌜ (start ≤ 4294967296) × (count ≤ 4294967296) ⌝ }
+    requires { ⌜ (start ≤ sumBound) × (count ≤ sumBound) ⌝ }
     ensures { λ r. ⌜ r ≡ allFollow (now (bytes .entry)) start count ⌝ }
 {
     let mut k = 0;
@@ -64,20 +57,20 @@ fn all_follow(bytes: &[u8], start: usize, count: usize) -> bool
 
 // Whether the 32 bytes from an index on are a name.
 fn is_name(bytes: &[u8], at: usize) -> bool
-    requires { ⌜ at ≤ 4294967296 ⌝ }
+    requires { ⌜ at ≤ sumBound ⌝ }
     ensures { λ r. ⌜ r ≡ isName (now (bytes .entry)) at ⌝ }
 {
     if !chars::is_letter(chars::byte_at(bytes, at)) {
         return false;
     }
-    if !all_follow(bytes, at, 31) {
+    if !all_follow(bytes, at, basics::NAME_LIMIT) {
         return false;
     }
-    chars::byte_at(bytes, at + 31) == 0
+    chars::byte_at(bytes, at + basics::NAME_LIMIT) == 0
 }
 
 fn are_zero(bytes: &[u8], start: usize, count: usize) -> bool
-    requires { ⌜ (start ≤ 4294967296) × (count ≤ 4294967296) ⌝ }
+    requires { ⌜ (start ≤ sumBound) × (count ≤ sumBound) ⌝ }
     ensures { λ r. ⌜ r ≡ areZero (now (bytes .entry)) start count ⌝ }
 {
     let mut k = 0;
@@ -92,26 +85,26 @@ fn are_zero(bytes: &[u8], start: usize, count: usize) -> bool
 
 // Whether a cell of a path is a name, or zeros behind the path's end.
 fn is_path_cell(paths: &[u8], at: usize, k: u64, depth: u64) -> bool
-    requires { ⌜ at ≤ 4294967296 ⌝ }
+    requires { ⌜ at ≤ sumBound ⌝ }
     ensures { λ r. ⌜ r ≡ isPathCell (now (paths .entry)) depth at k ⌝ }
 {
     if k <= depth {
         return is_name(paths, at);
     }
-    are_zero(paths, at, NAME_ROW)
+    are_zero(paths, at, basics::NAME_WIDTH)
 }
 
 fn are_names(paths: &[u8], start: usize, depth: u64) -> bool
-    requires { ⌜ start ≤ 1048576 ⌝ }
-    ensures { λ r. ⌜ r ≡ areNames (now (paths .entry)) depth start 0 9 ⌝ }
+    requires { ⌜ start ≤ indexBound ⌝ }
+    ensures { λ r. ⌜ r ≡ areNames (now (paths .entry)) depth start 0 (nestLimit + 1) ⌝ }
 {
     let mut k = 0;
     let mut at = start;
-    while k < 9 {
+    while k < NAMES {
         if !is_path_cell(paths, at, k, depth) {
             return false;
         }
-        at += NAME_ROW;
+        at += basics::NAME_WIDTH;
         k += 1;
     }
     true
@@ -121,19 +114,19 @@ fn is_index(index: u64, k: u64, depth: u64) -> bool
     ensures { λ r. ⌜ r ≡ isIndex depth k index ⌝ }
 {
     if k < depth {
-        return index <= 1024;
+        return index <= basics::ARRAY_LIMIT;
     }
     index == 0
 }
 
 fn are_indices(registers: &[u64], start: usize, depth: u64) -> bool
-    requires { ⌜ start ≤ 1048576 ⌝ }
-    ensures { λ r. ⌜ r ≡ areIndices (now (registers .entry)) depth start 0 8 ⌝ }
+    requires { ⌜ start ≤ indexBound ⌝ }
+    ensures { λ r. ⌜ r ≡ areIndices (now (registers .entry)) depth start 0 nestLimit ⌝ }
 {
     let mut k = 0;
     let mut at = start;
-    while k < 8 {
-        if !is_index(table::cell(registers, at), k, depth) {
+    while k < STEPS {
+        if !is_index(basics::cell(registers, at), k, depth) {
             return false;
         }
         at += 1;
@@ -143,7 +136,7 @@ fn are_indices(registers: &[u64], start: usize, depth: u64) -> bool
 }
 
 fn are_same(bytes: &[u8], a: usize, b: usize, count: usize) -> bool
-    requires { ⌜ (a ≤ 4294967296) × (b ≤ 4294967296) × (count ≤ 4294967296) ⌝ }
+    requires { ⌜ (a ≤ sumBound) × (b ≤ sumBound) × (count ≤ sumBound) ⌝ }
     ensures { λ r. ⌜ r ≡ areSame (now (bytes .entry)) a b count ⌝ }
 {
     let mut k = 0;
@@ -158,16 +151,16 @@ fn are_same(bytes: &[u8], a: usize, b: usize, count: usize) -> bool
 
 // A register's row.
 pub fn register_row(registers: &[u64], i: usize) -> RegisterRow
-    requires { ⌜ i ≤ 1048576 ⌝ }
+    requires { ⌜ i ≤ indexBound ⌝ }
     ensures { λ r. ⌜ r ≡ registerRow (now (registers .entry)) i ⌝ }
 {
-    let start = i * REGISTER_ROW;
-    let address = table::cell(registers, start);
-    let width = table::cell(registers, start + 1);
-    let access = table::cell(registers, start + 2);
-    let first = table::cell(registers, start + 3);
-    let count = table::cell(registers, start + 4);
-    let depth = table::cell(registers, start + 5);
+    let start = i * basics::REGISTER_ROW_WIDTH;
+    let address = basics::cell(registers, start);
+    let width = basics::cell(registers, start + 1);
+    let access = basics::cell(registers, start + 2);
+    let first = basics::cell(registers, start + 3);
+    let count = basics::cell(registers, start + 4);
+    let depth = basics::cell(registers, start + 5);
     RegisterRow {
         address: Offset(address),
         width,
@@ -182,10 +175,10 @@ pub fn register_row(registers: &[u64], i: usize) -> RegisterRow
 fn is_placed(row: RegisterRow) -> bool
     ensures { λ r. ⌜ r ≡ isPlaced row ⌝ }
 {
-    if !settings::is_width(row.width) {
+    if !fields::is_width(row.width) {
         return false;
     }
-    if !settings::is_width(row.access) {
+    if !fields::is_width(row.access) {
         return false;
     }
     if row.width < row.access {
@@ -194,10 +187,10 @@ fn is_placed(row: RegisterRow) -> bool
     if row.address.0 % (row.access / 8) != 0 {
         return false;
     }
-    if 4294967296 < row.address.0 {
+    if basics::ADDRESS_END < row.address.0 {
         return false;
     }
-    row.address.0 + row.width / 8 <= 4294967296
+    row.address.0 + row.width / 8 <= basics::ADDRESS_END
 }
 
 // A run of field rows, not empty, from a field row on, among all.
@@ -216,32 +209,32 @@ fn is_run(all: usize, first: usize, row: RegisterRow) -> bool
 
 // A path of 1 to 8 names below the map, whose name is the first row's.
 fn is_path(registers: &[u64], paths: &[u8], i: usize, depth: u64) -> bool
-    requires { ⌜ i ≤ 1024 ⌝ }
+    requires { ⌜ i ≤ registerLimit ⌝ }
     ensures { λ r. ⌜ r ≡ isPath (now (registers .entry)) (now (paths .entry)) i depth ⌝ }
 {
     if depth == 0 {
         return false;
     }
-    if 8 < depth {
+    if STEPS < depth {
         return false;
     }
-    if !are_indices(registers, i * REGISTER_ROW + 6, depth) {
+    if !are_indices(registers, i * basics::REGISTER_ROW_WIDTH + 6, depth) {
         return false;
     }
-    if !are_names(paths, i * PATH_ROW, depth) {
+    if !are_names(paths, i * basics::PATH_ROW_WIDTH, depth) {
         return false;
     }
-    are_same(paths, 0, i * PATH_ROW, NAME_ROW)
+    are_same(paths, 0, i * basics::PATH_ROW_WIDTH, basics::NAME_WIDTH)
 }
 
 // A field of a field row.
 pub fn field_row(fields: &[u64], j: usize) -> FieldAt
-    requires { ⌜ j ≤ 1048576 ⌝ }
+    requires { ⌜ j ≤ indexBound ⌝ }
     ensures { λ r. ⌜ r ≡ fieldRow (now (fields .entry)) j ⌝ }
 {
-    let start = j * FIELD_ROW;
-    let low = table::cell(fields, start);
-    let high = table::cell(fields, start + 1);
+    let start = j * basics::FIELD_ROW_WIDTH;
+    let low = basics::cell(fields, start);
+    let high = basics::cell(fields, start + 1);
     let values = field_values(fields, start);
     FieldAt {
         low: BitPlace(low),
@@ -251,16 +244,16 @@ pub fn field_row(fields: &[u64], j: usize) -> FieldAt
 }
 
 fn field_values(fields: &[u64], start: usize) -> FieldType
-    requires { ⌜ start ≤ 8388608 ⌝ }
+    requires { ⌜ start ≤ indexBound * fieldRowWidth ⌝ }
     ensures { λ r. ⌜ r ≡ fieldValues (now (fields .entry)) start ⌝ }
 {
-    let sw = table::cell(fields, start + 2);
-    let hw = table::cell(fields, start + 3);
-    let onread = table::cell(fields, start + 4);
-    let onwrite = table::cell(fields, start + 5);
-    let flag = table::cell(fields, start + 6);
-    let number = table::cell(fields, start + 7);
-    let reset = table::given_from(flag, number);
+    let sw = basics::cell(fields, start + 2);
+    let hw = basics::cell(fields, start + 3);
+    let onread = basics::cell(fields, start + 4);
+    let onwrite = basics::cell(fields, start + 5);
+    let flag = basics::cell(fields, start + 6);
+    let number = basics::cell(fields, start + 7);
+    let reset = basics::given_from(flag, number);
     FieldType {
         sw,
         hw,
@@ -298,10 +291,10 @@ fn is_sound_field(width: u64, field: FieldAt) -> bool
     if width <= field.high.0 {
         return false;
     }
-    if components::has_unusable_effect(values) {
+    if fields::has_unusable_effect(values) {
         return false;
     }
-    !components::breaks_rule(Probe::Wide, field)
+    !fields::breaks_rule(Probe::Wide, field)
 }
 
 fn is_reset_form(flag: u64, reset: u64) -> bool
@@ -317,7 +310,7 @@ fn is_reset_form(flag: u64, reset: u64) -> bool
 }
 
 fn is_field_row(fields: &[u64], labels: &[u8], width: u64, j: usize) -> bool
-    requires { ⌜ (width ≤ 64) × (j ≤ 4096) ⌝ }
+    requires { ⌜ (width ≤ 64) × (j ≤ fieldLimit) ⌝ }
     ensures { λ r. ⌜ r ≡ isFieldRow (now (fields .entry)) (now (labels .entry)) width j ⌝ }
 {
     let field = field_row(fields, j);
@@ -327,16 +320,16 @@ fn is_field_row(fields: &[u64], labels: &[u8], width: u64, j: usize) -> bool
     if !is_sound_field(width, field) {
         return false;
     }
-    let flag = table::cell(fields, j * FIELD_ROW + 6);
-    let reset = table::cell(fields, j * FIELD_ROW + 7);
+    let flag = basics::cell(fields, j * basics::FIELD_ROW_WIDTH + 6);
+    let reset = basics::cell(fields, j * basics::FIELD_ROW_WIDTH + 7);
     if !is_reset_form(flag, reset) {
         return false;
     }
-    is_name(labels, j * NAME_ROW)
+    is_name(labels, j * basics::NAME_WIDTH)
 }
 
 fn are_field_rows(fields: &[u64], labels: &[u8], width: u64, first: usize, count: usize) -> bool
-    requires { ⌜ (width ≤ 64) × (first + count ≤ 4096) ⌝ }
+    requires { ⌜ (width ≤ 64) × (first + count ≤ fieldLimit) ⌝ }
     ensures { λ r. ⌜ r ≡ areFieldRows (now (fields .entry)) (now (labels .entry)) width first count ⌝ }
 {
     let mut k = 0;
@@ -358,7 +351,7 @@ fn is_register_row(
     i: usize,
     first: usize,
 ) -> bool
-    requires { ⌜ (i ≤ 1024) × (first ≤ all) × (all ≤ 4096) ⌝ }
+    requires { ⌜ (i ≤ registerLimit) × (first ≤ all) × (all ≤ fieldLimit) ⌝ }
     ensures { λ r. ⌜ r ≡ isRegisterRow (tables (now (registers .entry)) (now (paths .entry)) (now (fields .entry)) (now (labels .entry))) all i first ⌝ }
 {
     let row = register_row(registers, i);
@@ -382,7 +375,7 @@ fn are_rows(
     all: usize,
     count: usize,
 ) -> bool
-    requires { ⌜ (count ≤ 1024) × (all ≤ 4096) ⌝ }
+    requires { ⌜ (count ≤ registerLimit) × (all ≤ fieldLimit) ⌝ }
     ensures { λ r. ⌜ r ≡ areRows (tables (now (registers .entry)) (now (paths .entry)) (now (fields .entry)) (now (labels .entry))) all 0 0 count ⌝ }
 {
     let mut i = 0;
@@ -402,27 +395,27 @@ fn are_rows(
 fn are_whole(registers: usize, paths: usize, fields: usize, labels: usize) -> bool
     ensures { λ r. ⌜ r ≡ areWhole registers paths fields labels ⌝ }
 {
-    let count = registers / REGISTER_ROW;
-    let all = fields / FIELD_ROW;
-    if REGISTER_LIMIT < count {
+    let count = registers / basics::REGISTER_ROW_WIDTH;
+    let all = fields / basics::FIELD_ROW_WIDTH;
+    if basics::REGISTER_LIMIT < count {
         return false;
     }
-    if FIELD_LIMIT < all {
+    if basics::FIELD_LIMIT < all {
         return false;
     }
     if count == 0 {
         return false;
     }
-    if registers != count * REGISTER_ROW {
+    if registers != count * basics::REGISTER_ROW_WIDTH {
         return false;
     }
-    if paths != count * PATH_ROW {
+    if paths != count * basics::PATH_ROW_WIDTH {
         return false;
     }
-    if fields != all * FIELD_ROW {
+    if fields != all * basics::FIELD_ROW_WIDTH {
         return false;
     }
-    labels == all * NAME_ROW
+    labels == all * basics::NAME_WIDTH
 }
 
 // Whether rows are lawful.
@@ -432,7 +425,7 @@ pub fn are_lawful(registers: &[u64], paths: &[u8], fields: &[u64], labels: &[u8]
     if !are_whole(registers.len(), paths.len(), fields.len(), labels.len()) {
         return false;
     }
-    let count = registers.len() / REGISTER_ROW;
-    let all = fields.len() / FIELD_ROW;
+    let count = registers.len() / basics::REGISTER_ROW_WIDTH;
+    let all = fields.len() / basics::FIELD_ROW_WIDTH;
     are_rows(registers, paths, fields, labels, all, count)
 }

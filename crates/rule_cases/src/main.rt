@@ -1,15 +1,15 @@
 // Runs the rule cases of standard input (for each a little-endian u32 length, then the text) and writes a line for each: the first
 // refusal by the words, by the sentences if those pass, or by the rules if both pass. tests/rule_cases.py makes the cases.
-use testing::LONGEST_TEXT;
-use testing::MOST_CASES;
+use case_io::LONGEST_TEXT;
+use case_io::MOST_CASES;
 
 // Runs the next case; answers whether there was one.
 fn run_case(case: u64, room: &mut [u8]) -> bool {
-    let text = testing::read_text(room);
+    let text = case_io::read_text(room);
     let length = text.length;
     if text.whole {
-        testing::put_number(b"", case);
-        testing::put_verdict(rules::first_refusal(&room[..length]));
+        case_io::put_number(b"", case);
+        case_io::put_verdict(rules::first_refusal(&room[..length]));
     }
     text.whole
 }

@@ -1,63 +1,59 @@
 -- Bodies and definitions: what the walk over one comes to.
 use mathlib.Core.Path.{_≡_, refl, sym, ap, _∙_}
 use mathlib.Core.Bool.{Bool, true, false, _&&_}
-use mathlib.Core.List.{List, [], _∷_, _++_}
-use Prim.Native.Nat.{ℕ, zero, suc, _+_, _-_, _*_, _<_, _≤_}
+use mathlib.Core.List.{List, [], _++_}
+use Prim.Native.Nat.{ℕ, zero, suc, _+_, _-_, _<_, _≤_}
 use native.Mathlib.Omega.{arith}
 use lib.Dec.{eqb}
 use lib.ListN.{length}
-use Rattle.chars.specs.Choice.{if_then_else_}
+use Rattle.basics.specs.Choice.{if_then_else_}
 use Rattle.chars.proofs.Laws.{and-right}
 use Rattle.lex.specs.Token.{tokenAt}
 use Rattle.lex.specs.declared.Token.{Token}
 use Rattle.vocabulary.specs.declared.Mark.the-variants as mark
 use Rattle.parts.specs.Reading.{Parsed, ok, stop, andThen, mapped}
-use Rattle.parts.specs.Words.{isKind, isMark}
+use Rattle.parts.specs.Words.{isMark}
 use Rattle.parts.specs.Parts.{headerAt, isNamed}
 use Rattle.parts.specs.Answers.{headerRead}
-use Rattle.parts.specs.declared.Kind.{Kind}
-use Rattle.parts.specs.declared.Name.{Name}
 use Rattle.parts.specs.declared.Instance.{Instance}
 use Rattle.parts.specs.declared.Header.{Header}
 use Rattle.parts.specs.declared.HeaderReading.{HeaderReading}
 use Rattle.parts.specs.declared.HeaderReading.the-variants as reading
 use Rattle.parts.specs.declared.DefinedName.{DefinedName}
 use Rattle.parts.specs.declared.DefinedName.the-variants.{Unnamed, Named}
-use Rattle.parts.proofs.Ends.{Ends, ends-of, mark-past, header-ends}
-use Rattle.suffixes.specs.declared.Fault.{Fault}
-use Rattle.suffixes.specs.declared.Fault.the-variants.{Sound, Broken}
-use Rattle.syntax.specs.Tree.{Elem, definition, instances, property, Body, close, more}
-use Rattle.syntax.specs.Grammar.{instancesAt, statementAt, tailAt, elementAt, elementsAt, definitionWith, definitionAt, bodyAt}
+use Rattle.parts.proofs.Ends.{ends-of, mark-past, header-ends}
+use Rattle.basics.specs.declared.Fault.{Fault}
+use Rattle.basics.specs.declared.Fault.the-variants.{None, Refused}
+use Rattle.syntax.specs.Tree.{Elem, definition, Body}
+use Rattle.syntax.specs.Grammar.{instancesAt, tailAt, definitionWith, definitionAt, bodyAt}
 use Rattle.syntax.proofs.Turns.{definition-more}
-use Rattle.syntax.proofs.Derive.{Reads, reads-close, reads-more, elements-read, Steps as Two, then-steps, Piece, mapped-piece}
-use Rattle.properties.specs.Judged.{Judged, fault, fine, onward, unless}
-use Rattle.properties.specs.Assigned.{nearest, nothingAssigned}
-use Rattle.properties.specs.declared.Given.{Given}
-use Rattle.properties.specs.declared.Given.the-variants.{Nothing, Number}
-use Rattle.components.specs.Components.{kindOf}
-use Rattle.table.specs.Cells.{openAt, size, rank, nameIn, belowIn}
-use Rattle.table.specs.Definitions.{Child, Definition, definitionOf, Entry}
-use Rattle.table.specs.Relation.{Block, block-end, Holds, Chain, chain-stop, chain-on}
-use Rattle.places.specs.Walks.{listedWalk, afterListing, openingWalk, innerScope, nameOr, headAfter, mapAfter, afterBody}
-use Rattle.places.specs.declared.Place.the-variants.{Inside}
-use Rattle.places.specs.declared.Walk.{Walk}
-use Rattle.places.specs.declared.Scope.{Scope}
-use Rattle.places.specs.declared.Step.{Step}
-use Rattle.places.specs.declared.Step.the-variants as step
-use Rattle.places.specs.declared.Listing.{Listing}
-use Rattle.places.specs.declared.Listing.the-variants as listing
-use Rattle.rules.specs.Limits.{definitionLimit}
-use Rattle.rules.specs.Judge.{State, Known, Made, opening, withHeld, found, typesWith, lastOf, closed, declared, judgeInstances, judgeDefinition, judgeElem, judgeBody}
-use Rattle.rules.specs.Standing.{Fits, Kept, Sounds, sounds-end, Standing, Matches, matches-fault, matches-on, Moved, Moves, moves-fault, moves-on, Steps, Listed, Typed, Lists, ListMatches, Closed, BodyMatches, body-fault, body-on, BodyMoved, BodyMoves, body-stops, body-moves, Closing, HeaderFault, Tails, BodySteps}
-use Rattle.rules.proofs.Frames.{kept-same, kept-then, block-kept, holds-kept, chain-kept, chain-join, sounds-kept}
+use Rattle.syntax.proofs.Derive.{then-steps, mapped-piece}
+use Rattle.basics.specs.Judged.{Judged, fault, fine, onward, found}
+use Rattle.properties.specs.Assigned.{nearest}
+use Rattle.basics.specs.declared.Given.the-variants.{Number}
+use Rattle.cells.specs.Cells.{rank, nameIn, belowIn}
+use Rattle.cells.specs.Definitions.{VisibleType}
+use Rattle.cells.specs.Relation.{block-end, Chain, chain-stop, chain-on}
+use Rattle.scopes.specs.Walks.{listedWalk, afterListing, openingWalk, innerScope, headAfter, mapAfter, afterBody}
+use Rattle.scopes.specs.declared.Enclosing.the-variants.{Inside}
+use Rattle.scopes.specs.declared.Progress.{Progress}
+use Rattle.scopes.specs.declared.Scope.{Scope}
+use Rattle.scopes.specs.declared.Progressed.{Progressed}
+use Rattle.scopes.specs.declared.Progressed.the-variants as progressed
+use Rattle.scopes.specs.declared.ListJudged.{ListJudged}
+use Rattle.scopes.specs.declared.ListJudged.the-variants as listJudged
+use Rattle.basics.specs.Limits.{definitionLimit}
+use Rattle.rules.specs.Judge.{State, Made, opening, withHeld, typesWith, lastOf, closed, declared, judgeInstances, judgeDefinition, judgeElem, judgeBody}
+use Rattle.rules.specs.Standing.{FitsText, Kept, sounds-end, Standing, matches-fault, matches-on, Moves, moves-fault, moves-on, Steps, Typed, Lists, Closed, BodyMatches, body-fault, body-on, BodyMoved, BodyMoves, body-stops, body-moves, HeaderFault, Tails, BodySteps}
+use Rattle.rules.proofs.Frames.{kept-same, kept-then, block-kept, chain-kept, chain-join, sounds-kept}
 use Rattle.rules.proofs.Statements.{standing-listed, standing-held, listing-moves, listing-matches}
 
 never : {X A : Type 0} {n p m : ℕ} {a : A} → stop n p ≡ ok a m → X
 never e = absurd (let z : _≡_ {A = ℕ} 0 1 = cc in omega arith)
 
 -- behind a body: nothing, or instances
-module _ (text t : List ℕ) (scope : Scope) (h : Header) (w : Walk) (f : Fits (length text) scope w) {k : Token} {b : Bool} (e : k ≡ tokenAt text (w .at)) (g : b ≡ (isNamed (h .name) && isMark mark.Semicolon (k .word))) where
-  pub tail-bare : {r : Step} → b ≡ true → r ≡ afterListing w (listing.Done (w .held) (k .end)) → Tails text t t scope h w r
+module _ (text t : List ℕ) (scope : Scope) (h : Header) (w : Progress) (f : FitsText (length text) scope w) {k : Token} {b : Bool} (e : k ≡ tokenAt text (w .at)) (g : b ≡ (isNamed (h .name) && isMark mark.Semicolon (k .word))) where
+  pub tail-bare : {r : Progressed} → b ≡ true → r ≡ afterListing w (listJudged.Done (w .held) (k .end)) → Tails text t t scope h w r
   unfolding tailAt judgeInstances onward
   tail-bare y z =
       let m : (isNamed (h .name) && isMark mark.Semicolon (tokenAt text (w .at) .word)) ≡ true = rw (← e) (sym g ∙ y) in
@@ -92,7 +88,7 @@ module _ (text t : List ℕ) (scope : Scope) (h : Header) (w : Walk) (f : Fits (
             rw (← i) (matches-on {w = listedWalk w (w .held) (tokenAt text (w .at) .end)} j (standing-held {h = 0} st (f .head) kept-same (standing-listed st)));
       })
 
-  pub tail-listing : {u : List ℕ} {row : ℕ} {l : Listing} {r : Step} → b ≡ false → row ≡ w .closed - 1 → Lists text t u scope row (h .kind) (w .at) (w .held) l → r ≡ afterListing w l → Tails text t u scope h w r
+  pub tail-listing : {u : List ℕ} {row : ℕ} {l : ListJudged} {r : Progressed} → b ≡ false → row ≡ w .closed - 1 → Lists text t u scope row (h .kind) (w .at) (w .held) l → r ≡ afterListing w l → Tails text t u scope h w r
   unfolding tailAt
   tail-listing {u} {row} y a x z =
       let m : (isNamed (h .name) && isMark mark.Semicolon (tokenAt text (w .at) .word)) ≡ false = rw (← e) (sym g ∙ y) in
@@ -107,8 +103,8 @@ module _ (text t : List ℕ) (scope : Scope) (h : Header) (w : Walk) (f : Fits (
       }
 
 -- where a body opens
-module _ (text t : List ℕ) (scope : Scope) (w : Walk) (h : Header) (inside : ℕ) (f : Fits (length text) scope w) (past : w .at < inside) (in-text : inside ≤ length text) (few : w .opened < definitionLimit) where
-  pub opening-fits : Fits (length text) (innerScope scope w (h .kind)) (openingWalk w inside)
+module _ (text t : List ℕ) (scope : Scope) (w : Progress) (h : Header) (inside : ℕ) (f : FitsText (length text) scope w) (past : w .at < inside) (in-text : inside ≤ length text) (few : w .opened < definitionLimit) where
+  pub opening-fits : FitsText (length text) (innerScope scope w (h .kind)) (openingWalk w inside)
   opening-fits =
       record {
         short = f .short;
@@ -136,8 +132,8 @@ module _ (text t : List ℕ) (scope : Scope) (w : Walk) (h : Header) (inside : �
       }
 
   -- behind a definition's body
-  module _ {v : Walk} (m : BodyMoved (length text) (innerScope scope w (h .kind)) (openingWalk w inside) v) where
-    pub after-fits : Fits (length text) scope (afterBody w h v)
+  module _ {v : Progress} (m : BodyMoved (length text) (innerScope scope w (h .kind)) (openingWalk w inside) v) where
+    pub after-fits : FitsText (length text) scope (afterBody w h v)
     after-fits =
         record {
           short = f .short;
@@ -231,29 +227,29 @@ definition-read text at zero h inside q r = with-parts text at (λ h inside. sto
 definition-read text at (suc bodies) h inside q r = with-parts text at (λ h inside. bodyAt bodies text inside) h inside q (sym (definition-more bodies text at) ∙ r)
 
 -- what an answer of a body's walk says
-record Ended (text u : List ℕ) (h : Header) (scope : Scope) (n : ℕ) (j : Judged Made) (v : Walk) : Type 0 where
+record Ended (text u : List ℕ) (h : Header) (scope : Scope) (n : ℕ) (j : Judged Made) (v : Progress) : Type 0 where
   pub made : Made
   pub same : j ≡ fine made
   pub ended : Closed text u h scope n made v
 
 module _ {text u : List ℕ} {h : Header} {scope : Scope} {n : ℕ} where
-  body-faulted : {j : Judged Made} {y : Step} {m p : ℕ} → y ≡ step.Fault m p → BodyMatches text u h scope n j y → j ≡ fault m p
+  body-faulted : {j : Judged Made} {y : Progressed} {m p : ℕ} → y ≡ progressed.Refused m p → BodyMatches text u h scope n j y → j ≡ fault m p
   body-faulted {m = m} {p} e (body-fault {number = a} {place = b}) =
       let q : a ≡ m = cc in
       let r : b ≡ p = cc in
       rw (q, r)
   body-faulted e (body-on c) = absurd (let z : _≡_ {A = ℕ} 0 1 = cc in omega arith)
 
-  body-ended : {j : Judged Made} {y : Step} {v : Walk} → y ≡ step.On v → BodyMatches text u h scope n j y → Ended text u h scope n j v
+  body-ended : {j : Judged Made} {y : Progressed} {v : Progress} → y ≡ progressed.Done v → BodyMatches text u h scope n j y → Ended text u h scope n j v
   body-ended e body-fault = absurd (let z : _≡_ {A = ℕ} 0 1 = cc in omega arith)
   body-ended {v = v} e (body-on {m = m} {v = v′} c) = let q : v′ ≡ v = cc in record { made = m; same = refl; ended = rw q at c }
 
-pub body-moved : {long : ℕ} {scope : Scope} {w v : Walk} {y : Step} → y ≡ step.On v → BodyMoves long scope w y → BodyMoved long scope w v
+pub body-moved : {long : ℕ} {scope : Scope} {w v : Progress} {y : Progressed} → y ≡ progressed.Done v → BodyMoves long scope w y → BodyMoved long scope w v
 body-moved e body-stops = absurd (let z : _≡_ {A = ℕ} 0 1 = cc in omega arith)
 body-moved {v = v} e (body-moves {v = v′} m) = let q : v′ ≡ v = cc in rw q at m
 
 -- the ways through a definition
-module _ (text : List ℕ) (w : Walk) (bodies : ℕ) where
+module _ (text : List ℕ) (w : Progress) (bodies : ℕ) where
   abbrev Reading : Elem → ℕ → Type 0
   Reading e n = definitionAt bodies text (w .at) ≡ ok e n
 
@@ -262,8 +258,8 @@ unfolding definitionAt definitionWith andThen
 refused text at zero f q = never (rw f at q)
 refused text at (suc b) f q = never (rw f at q)
 
-module _ (text t : List ℕ) (scope : Scope) (w : Walk) (bodies : ℕ) {x : HeaderReading} (e : headerRead x ≡ headerAt text (w .at)) where
-  pub def-stop : {p : ℕ} → x ≡ reading.Stop p → Steps text t t scope w (Reading text w bodies) (step.Fault 3 p)
+module _ (text t : List ℕ) (scope : Scope) (w : Progress) (bodies : ℕ) {x : HeaderReading} (e : headerRead x ≡ headerAt text (w .at)) where
+  pub def-stop : {p : ℕ} → x ≡ reading.Refused p → Steps text t t scope w (Reading text w bodies) (progressed.Refused 3 p)
   def-stop f = record { kept = kept-same; moves = moves-fault; each = λ a n env s q st c. refused text (w .at) bodies (sym (rw f at e)) q }
 
   module _ {h : Header} {inside : ℕ} (f : x ≡ reading.Done h inside) where
@@ -277,18 +273,18 @@ module _ (text t : List ℕ) (scope : Scope) (w : Walk) (bodies : ℕ) {x : Head
     parts = definition-read text (w .at) bodies h inside header-read
 
     -- what a definition is judged as behind its head
-    abbrev judged : List Entry → State → Body → List Instance → Judged State
+    abbrev judged : List VisibleType → State → Body → List Instance → Judged State
     judged env s tree list =
-        onward (judgeBody tree text (h .kind) (s .known .here ++ env) (nearest (s .assigned .defaults) (scope .defaults)) (opening (s .known .table) (s .known .map) (s .known .opened + 1))) (λ m.
-        onward (judgeInstances text (scope .place) (h .kind) (lastOf (m .table)) list (s .held)) (λ held. fine (withHeld (declared s h m) held)))
+        onward (judgeBody tree text h (s .known .here ++ env) (nearest (s .assigned .defaults) (scope .defaults)) (opening (s .known .table) (s .known .map) (s .known .opened + 1))) (λ m.
+        onward (judgeInstances text (scope .enclosing) (h .kind) (lastOf (m .table)) list (s .held)) (λ held. fine (withHeld (declared s h m) held)))
 
     module _ {r : Fault} (hf : HeaderFault text t scope w h r) where
-      judged-as : (env : List Entry) (s : State) → Standing text t scope w s → (tree : Body) (list : List Instance)
-          → judgeElem (definition h tree list) text (scope .place) env (scope .defaults) s ≡ found r (judged env s tree list)
+      judged-as : (env : List VisibleType) (s : State) → Standing text t scope w s → (tree : Body) (list : List Instance)
+          → judgeElem (definition h tree list) text (scope .enclosing) env (scope .defaults) s ≡ found r (judged env s tree list)
       unfolding judgeElem judgeDefinition
       judged-as env s st tree list = sym (hf .each s st (judged env s tree list))
 
-      pub def-broken : {m p : ℕ} → r ≡ Broken m p → Steps text t t scope w (Reading text w bodies) (step.Fault m p)
+      pub def-broken : {m p : ℕ} → r ≡ Refused m p → Steps text t t scope w (Reading text w bodies) (progressed.Refused m p)
       def-broken y =
           record {
             kept = kept-same;
@@ -298,7 +294,7 @@ module _ (text t : List ℕ) (scope : Scope) (w : Walk) (bodies : ℕ) {x : Head
                 rw (← d .made, judged-as env s st (d .tree) (d .list), y) matches-fault;
           }
 
-      pub def-deep : {m p : ℕ} → bodies ≡ 0 → Steps text t t scope w (Reading text w bodies) (step.Fault m p)
+      pub def-deep : {m p : ℕ} → bodies ≡ 0 → Steps text t t scope w (Reading text w bodies) (progressed.Refused m p)
       def-deep y = record { kept = kept-same; moves = moves-fault; each = λ a n env s q st c. deep bodies y (parts q .reads-body) }
         where
           deep : {X : Type 0} {tree : Body} {n : ℕ} (b : ℕ) → b ≡ 0 → bodyIn b text h inside ≡ ok tree n → X
@@ -306,15 +302,15 @@ module _ (text t : List ℕ) (scope : Scope) (w : Walk) (bodies : ℕ) {x : Head
           deep (suc b) y q = absurd (omega (arith, y))
 
       -- what the body's walk asks
-      module _ (sound : r ≡ Sound) (g : Fits (length text) scope w) where
+      module _ (sound : r ≡ None) (g : FitsText (length text) scope w) where
         pub def-few : w .opened < definitionLimit
         def-few = hf .low sound
 
-        pub def-opens : {inner : Scope} {first : Walk} → inner ≡ innerScope scope w (h .kind) → first ≡ openingWalk w inside
-            → Fits (length text) inner first × (first .closed < first .opened) × (inner .place ≡ Inside (h .kind))
+        pub def-opens : {inner : Scope} {first : Progress} → inner ≡ innerScope scope w (h .kind) → first ≡ openingWalk w inside
+            → FitsText (length text) inner first × (first .closed < first .opened) × (inner .enclosing ≡ Inside (h .kind))
         def-opens p q = rw (p, q) (opening-fits text t scope w h inside g (def-past .0) (def-past .1) def-few, omega (arith, g .closed), refl)
 
-      module _ (sound : r ≡ Sound) (g : Fits (length text) scope w) (nz : bodies ≡ 0 → ⊥) {u : List ℕ} {y : Step} {inner : Scope} {first : Walk} (i : inner ≡ innerScope scope w (h .kind))
+      module _ (sound : r ≡ None) (g : FitsText (length text) scope w) (nz : bodies ≡ 0 → ⊥) {u : List ℕ} {y : Progressed} {inner : Scope} {first : Progress} (i : inner ≡ innerScope scope w (h .kind))
           (j : first ≡ openingWalk w inside) (b₀ : BodySteps text t u h inner first (λ tree n. bodyAt (bodies - 1) text (first .at) ≡ ok tree n) y) where
         b : BodySteps text t u h (innerScope scope w (h .kind)) (openingWalk w inside) (λ tree n. bodyAt (bodies - 1) text inside ≡ ok tree n) y
         b = rw (i, j) at b₀
@@ -325,16 +321,16 @@ module _ (text t : List ℕ) (scope : Scope) (w : Walk) (bodies : ℕ) {x : Head
         pub def-long : length u ≡ length t
         def-long = b .kept .long
 
-        body-judged : {a : Elem} {n : ℕ} (env : List Entry) (s : State) (q : definitionAt bodies text (w .at) ≡ ok a n) → Standing text t scope w s → Chain t 0 (scope .base) env
+        body-judged : {a : Elem} {n : ℕ} (env : List VisibleType) (s : State) (q : definitionAt bodies text (w .at) ≡ ok a n) → Standing text t scope w s → Chain t 0 (scope .base) env
             → BodyMatches text u h (innerScope scope w (h .kind)) (parts q .behind)
-            (judgeBody (parts q .tree) text (h .kind) (s .known .here ++ env) (nearest (s .assigned .defaults) (scope .defaults)) (opening (s .known .table) (s .known .map) (s .known .opened + 1))) y
+            (judgeBody (parts q .tree) text h (s .known .here ++ env) (nearest (s .assigned .defaults) (scope .defaults)) (opening (s .known .table) (s .known .map) (s .known .opened + 1))) y
         body-judged env s q st c =
             rw (← st .assigned)
             (b .each (parts q .tree) (parts q .behind) (s .known .here ++ env) (opening (s .known .table) (s .known .map) (s .known .opened + 1))
             (sym (body-in bodies text h inside nz) ∙ parts q .reads-body)
             (opening-stands text t scope w h inside g (def-past .0) (def-past .1) few s st) (chain-join (st .types) c))
 
-        pub def-body : {m p : ℕ} → y ≡ step.Fault m p → Steps text t u scope w (Reading text w bodies) (step.Fault m p)
+        pub def-body : {m p : ℕ} → y ≡ progressed.Refused m p → Steps text t u scope w (Reading text w bodies) (progressed.Refused m p)
         unfolding onward
         def-body {m} {p} z =
             record {
@@ -346,17 +342,17 @@ module _ (text t : List ℕ) (scope : Scope) (w : Walk) (bodies : ℕ) {x : Head
                   rw (← d .made, judged-as env s st (d .tree) (d .list), sound, j) matches-fault;
             }
 
-        module _ {v : Walk} (z : y ≡ step.On v) where
+        module _ {v : Progress} (z : y ≡ progressed.Done v) where
           pub def-moved : BodyMoved (length text) (innerScope scope w (h .kind)) (openingWalk w inside) v
           def-moved = body-moved z (b .moves)
 
           pub def-some : 1 ≤ v .closed
           def-some = after-some text t scope w h inside g (def-past .0) (def-past .1) few def-moved
 
-          pub def-after : {behind : Walk} → behind ≡ afterBody w h v → Fits (length text) scope behind × (1 ≤ behind .closed)
+          pub def-after : {behind : Progress} → behind ≡ afterBody w h v → FitsText (length text) scope behind × (1 ≤ behind .closed)
           def-after q = rw q (after-fits text t scope w h inside g (def-past .0) (def-past .1) few def-moved, def-some)
 
-          tail-moves : {r : Step} → Moves (length text) scope (afterBody w h v) r → Moves (length text) scope w r
+          tail-moves : {r : Progressed} → Moves (length text) scope (afterBody w h v) r → Moves (length text) scope w r
           tail-moves moves-fault = moves-fault
           tail-moves (moves-on m) =
               let k = def-moved in
@@ -370,10 +366,10 @@ module _ (text t : List ℕ) (scope : Scope) (w : Walk) (bodies : ℕ) {x : Head
                 gap = omega (arith, m .gap, k .gap);
               })
 
-          pub def-tail-long : {v′ : List ℕ} {behind : Walk} {o : Step} → Tails text u v′ scope h behind o → length v′ ≡ length t
+          pub def-tail-long : {v′ : List ℕ} {behind : Progress} {o : Progressed} → Tails text u v′ scope h behind o → length v′ ≡ length t
           def-tail-long l = l .kept .long ∙ def-long
 
-          tailed : {v′ : List ℕ} {o : Step} → Tails text u v′ scope h (afterBody w h v) o → Steps text t v′ scope w (Reading text w bodies) o
+          tailed : {v′ : List ℕ} {o : Progressed} → Tails text u v′ scope h (afterBody w h v) o → Steps text t v′ scope w (Reading text w bodies) o
           unfolding onward declared
           tailed l =
               let k = def-moved in
@@ -390,5 +386,5 @@ module _ (text t : List ℕ) (scope : Scope) (w : Walk) (bodies : ℕ) {x : Head
                     (l .each (d .list) n (declared s h (j .made)) (rw at (d .reads-tail)) sd ty);
               }
 
-          pub def-tail : {v′ : List ℕ} {behind : Walk} {o : Step} → behind ≡ afterBody w h v → Tails text u v′ scope h behind o → Steps text t v′ scope w (Reading text w bodies) o
+          pub def-tail : {v′ : List ℕ} {behind : Progress} {o : Progressed} → behind ≡ afterBody w h v → Tails text u v′ scope h behind o → Steps text t v′ scope w (Reading text w bodies) o
           def-tail q m = tailed (rw q at m)

@@ -1,5 +1,5 @@
 -- The end of a body: its definition is filed.
-use mathlib.Core.Path.{_≡_, refl, sym, ap, _∙_}
+use mathlib.Core.Path.{_≡_, refl, _∙_}
 use mathlib.Core.Bool.{Bool, true, false}
 use mathlib.Core.List.{List, [], _∷_, _++_}
 use Prim.Native.Nat.{ℕ, zero, suc, _+_, _-_, _*_, _<_, _≤_}
@@ -11,27 +11,28 @@ use Rattle.parts.specs.declared.Kind.{Kind}
 use Rattle.parts.specs.declared.Kind.the-variants as kind
 use Rattle.parts.specs.declared.Name.{Name}
 use Rattle.parts.specs.declared.Header.{Header}
-use Rattle.properties.specs.Judged.{Judged, fault, fine, unless}
+use Rattle.basics.specs.Limits.{definitionLimit}
+use Rattle.basics.specs.Judged.{unless}
 use Rattle.properties.specs.Assigned.{nearest}
 use Rattle.properties.specs.declared.Settings.{Settings}
 use Rattle.components.specs.Components.{componentOf, kindOf}
 use Rattle.components.specs.declared.Component.{Component}
-use Rattle.table.specs.Cells.{cellOf, filedAt, openAt, size, valuesOf, valuesIn, valueCells, otherCells, componentFrom, componentIn, firstIn, countIn, nameIn, belowIn, written, moved}
-use Rattle.table.specs.declared.Values.{Values}
-use Rattle.table.specs.Definitions.{Child, Definition, noDefinition, definitionOf}
-use Rattle.table.specs.Relation.{Block, block-end, block-on, IsRow, Holds}
-use Rattle.table.proofs.Laws.{written-same, written-other, written-length, moved-same, moved-other, moved-length, values-component}
-use Rattle.closing.specs.Registers.{closingFault}
-use Rattle.closing.specs.Decoded.{closingIn}
-use Rattle.closing.proofs.Laws.{stored-closing}
-use Rattle.places.specs.Walks.{nameOr, rowOf, filedCells, closedWalk}
-use Rattle.places.specs.declared.Walk.{Walk}
-use Rattle.places.specs.declared.Scope.{Scope}
-use Rattle.places.specs.declared.Step.{Step}
-use Rattle.places.specs.declared.Step.the-variants as step
-use Rattle.rules.specs.Judge.{State, Made, closed}
-use Rattle.rules.specs.Standing.{Fits, Kept, Standing, Closed, BodyMatches, body-fault, body-on, BodyMoved, BodyMoves, body-stops, body-moves, Closing}
-use Rattle.rules.proofs.Frames.{kept-same, block-kept, row-kept, row-later, stored-of}
+use Rattle.basics.specs.Slices.{cellOf, written}
+use Rattle.cells.specs.Cells.{filedAt, openAt, size, valuesOf, valuesIn, valueCells, otherCells, componentIn, firstIn, nameIn, belowIn, moved, definitionWidth, instanceRoom}
+use Rattle.cells.specs.declared.Values.{Values}
+use Rattle.cells.specs.Definitions.{Child, Definition, noDefinition, nameOr}
+use Rattle.cells.specs.Relation.{Block, block-end, block-on, IsRow}
+use Rattle.cells.proofs.Laws.{written-same, written-other, written-length, moved-same, moved-other, moved-length, values-component}
+use Rattle.closing_rules.specs.Registers.{closingFault}
+use Rattle.closing_rules.specs.Decoded.{closingIn}
+use Rattle.closing_rules.proofs.Laws.{stored-closing}
+use Rattle.scopes.specs.Walks.{rowOf, filedCells, closedWalk}
+use Rattle.scopes.specs.declared.Progress.{Progress}
+use Rattle.scopes.specs.declared.Scope.{Scope}
+use Rattle.scopes.specs.declared.Progressed.the-variants as progressed
+use Rattle.rules.specs.Judge.{State, closed}
+use Rattle.rules.specs.Standing.{FitsText, Kept, Standing, Closed, body-fault, body-on, body-stops, body-moves, Closing}
+use Rattle.rules.proofs.Frames.{kept-same, row-kept, row-later, stored-of}
 use Rattle.rules.proofs.Instances.{length-more}
 
 -- cells that were moved hold the same instances
@@ -43,56 +44,56 @@ block-moved {text} {t} {u} {i} {k} same (block-on {c = c} {cs = cs} e b) =
     (block-moved (λ j l. let x : k + suc j ≡ suc k + j = omega arith in let y : i + suc j ≡ suc i + j = omega arith in rw (x, y) at (same (suc j) (omega (arith, l)))) b)
 
 -- the cells of a definition that is filed: its row, and its instances moved
-module _ (t : List ℕ) (n f first count : ℕ) (vs os : List ℕ) (seven : length vs ≡ 7) (five : length os ≡ 5) (low : n < 256) (room : f + count ≤ 32768) (few : first + count ≤ 32768) where
+module _ (t : List ℕ) (n f first count : ℕ) (vs os : List ℕ) (seven : length vs ≡ 7) (five : length os ≡ 5) (low : n < definitionLimit) (room : f + count ≤ instanceRoom) (few : first + count ≤ instanceRoom) where
   abbrev values-put : List ℕ
-  values-put = written t (n * 16) vs
+  values-put = written t (n * definitionWidth) vs
 
   abbrev row-put : List ℕ
-  row-put = written values-put (n * 16 + 7) os
+  row-put = written values-put (n * definitionWidth + 7) os
 
   abbrev pub cells-filed : List ℕ
   cells-filed = moved row-put (openAt + first) (filedAt + f) count
 
-  row-outside : (j : ℕ) → (n * 16 ≤ j → n * 16 + 12 ≤ j) → cellOf row-put j ≡ cellOf t j
+  row-outside : (j : ℕ) → (n * definitionWidth ≤ j → n * definitionWidth + 12 ≤ j) → cellOf row-put j ≡ cellOf t j
   row-outside j h =
-      written-other values-put (n * 16 + 7) os j (λ l. omega (arith, h (omega (arith, l)), five)) ∙ written-other t (n * 16) vs j (λ l. omega (arith, h l, seven))
+      written-other values-put (n * definitionWidth + 7) os j (λ l. omega (arith, h (omega (arith, l)), five)) ∙ written-other t (n * definitionWidth) vs j (λ l. omega (arith, h l, seven))
 
   pub filed-kept : Kept t cells-filed n f first
   filed-kept =
       record {
-        long = moved-length row-put (openAt + first) (filedAt + f) count ∙ written-length values-put (n * 16 + 7) os ∙ written-length t (n * 16) vs;
+        long = moved-length row-put (openAt + first) (filedAt + f) count ∙ written-length values-put (n * definitionWidth + 7) os ∙ written-length t (n * definitionWidth) vs;
         rows = λ j l. moved-other row-put (openAt + first) (filedAt + f) count j (λ k. absurd (omega (arith, k, l, low))) ∙ row-outside j (λ k. absurd (omega (arith, k, l)));
         filed = λ j l k. moved-other row-put (openAt + first) (filedAt + f) count j (λ m. absurd (omega (arith, m, k))) ∙ row-outside j (λ m. omega (arith, l, low));
         opens = λ j l k. moved-other row-put (openAt + first) (filedAt + f) count j (λ m. omega (arith, l, room)) ∙ row-outside j (λ m. omega (arith, l, low));
       }
 
   module _ (long : size ≤ length t) where
-    pub filed-value : (k : ℕ) → k < 7 → cellOf cells-filed (n * 16 + k) ≡ getD vs k 0
+    pub filed-value : (k : ℕ) → k < 7 → cellOf cells-filed (n * definitionWidth + k) ≡ getD vs k 0
     filed-value k l =
-        moved-other row-put (openAt + first) (filedAt + f) count (n * 16 + k) (λ m. absurd (omega (arith, m, l, low))) ∙
-        written-other values-put (n * 16 + 7) os (n * 16 + k) (λ m. absurd (omega (arith, m, l))) ∙
-        written-same t (n * 16) vs k (omega (arith, seven, long, low)) (omega (arith, seven, l))
+        moved-other row-put (openAt + first) (filedAt + f) count (n * definitionWidth + k) (λ m. absurd (omega (arith, m, l, low))) ∙
+        written-other values-put (n * definitionWidth + 7) os (n * definitionWidth + k) (λ m. absurd (omega (arith, m, l))) ∙
+        written-same t (n * definitionWidth) vs k (omega (arith, seven, long, low)) (omega (arith, seven, l))
 
-    pub filed-other : (k : ℕ) → k < 5 → cellOf cells-filed (n * 16 + 7 + k) ≡ getD os k 0
+    pub filed-other : (k : ℕ) → k < 5 → cellOf cells-filed (n * definitionWidth + 7 + k) ≡ getD os k 0
     filed-other k l =
-        moved-other row-put (openAt + first) (filedAt + f) count (n * 16 + 7 + k) (λ m. absurd (omega (arith, m, l, low))) ∙
-        written-same values-put (n * 16 + 7) os k (omega (arith, five, long, low, written-length t (n * 16) vs)) (omega (arith, five, l))
+        moved-other row-put (openAt + first) (filedAt + f) count (n * definitionWidth + 7 + k) (λ m. absurd (omega (arith, m, l, low))) ∙
+        written-same values-put (n * definitionWidth + 7) os k (omega (arith, five, long, low, written-length t (n * definitionWidth) vs)) (omega (arith, five, l))
 
     pub filed-moved : (k : ℕ) → k < count → cellOf cells-filed (filedAt + f + k) ≡ cellOf t (openAt + first + k)
     filed-moved k l =
         moved-same row-put (openAt + first) (filedAt + f) count k (omega (arith, room))
-        (omega (arith, few, long, written-length values-put (n * 16 + 7) os, written-length t (n * 16) vs)) l ∙
+        (omega (arith, few, long, written-length values-put (n * definitionWidth + 7) os, written-length t (n * definitionWidth) vs)) l ∙
         row-outside (openAt + first + k) (λ m. omega (arith, low))
 
-values-of-cells : (u : List ℕ) (r : ℕ) (v : Values) → cellOf u (r * 16) ≡ v .kind → cellOf u (r * 16 + 1) ≡ v .a → cellOf u (r * 16 + 2) ≡ v .b → cellOf u (r * 16 + 3) ≡ v .c
-    → cellOf u (r * 16 + 4) ≡ v .d → cellOf u (r * 16 + 5) ≡ v .e → cellOf u (r * 16 + 6) ≡ v .f → valuesIn u r ≡ v
+values-of-cells : (u : List ℕ) (r : ℕ) (v : Values) → cellOf u (r * definitionWidth) ≡ v .kind → cellOf u (r * definitionWidth + 1) ≡ v .a → cellOf u (r * definitionWidth + 2) ≡ v .b → cellOf u (r * definitionWidth + 3) ≡ v .c
+    → cellOf u (r * definitionWidth + 4) ≡ v .d → cellOf u (r * definitionWidth + 5) ≡ v .e → cellOf u (r * definitionWidth + 6) ≡ v .f → valuesIn u r ≡ v
 unfolding valuesIn
 values-of-cells u r v a b c d e f g = rw (a, b, c, d, e, f, g)
 
-name-of-cells : (u : List ℕ) (r : ℕ) (m : Name) → cellOf u (r * 16 + 9) ≡ m .start → cellOf u (r * 16 + 10) ≡ m .end → nameIn u r ≡ m
+name-of-cells : (u : List ℕ) (r : ℕ) (m : Name) → cellOf u (r * definitionWidth + 9) ≡ m .start → cellOf u (r * definitionWidth + 10) ≡ m .end → nameIn u r ≡ m
 name-of-cells u r m a b = rw (a, b)
 
-below-of-cell : (u : List ℕ) (r b : ℕ) → cellOf u (r * 16 + 11) ≡ b → b ≤ r → belowIn u r ≡ b
+below-of-cell : (u : List ℕ) (r b : ℕ) → cellOf u (r * definitionWidth + 11) ≡ b → b ≤ r → belowIn u r ≡ b
 unfolding belowIn
 below-of-cell u r b a l = rw (a, le-ltb r b l)
 
@@ -113,7 +114,7 @@ kind-of-component kind.Regfile s = refl
 kind-of-component kind.Reg s = refl
 kind-of-component kind.Field s = refl
 
-module _ (text t : List ℕ) (header : Header) (scope : Scope) (w : Walk) (brace next : ℕ) {c : Component} (e : c ≡ componentOf (header .kind) (nearest (w .assigned .own) (scope .defaults)))
+module _ (text t : List ℕ) (header : Header) (scope : Scope) (w : Progress) (brace next : ℕ) {c : Component} (e : c ≡ componentOf (header .kind) (nearest (w .assigned .own) (scope .defaults)))
     {n : ℕ} (f : n ≡ closingIn text t (openAt + scope .first) (openAt + w .held) c) where
   fault-of : (s : State) → Standing text t scope w s → n ≡ closingFault (s .known .table) (componentOf (header .kind) (nearest (s .assigned .own) (scope .defaults))) (s .held)
   fault-of s st =
@@ -121,7 +122,7 @@ module _ (text t : List ℕ) (header : Header) (scope : Scope) (w : Walk) (brace
       let a = f ∙ stored-closing c (rw z at (stored-of (st .rows) (st .held) (st .sound))) in
       rw (e, st .assigned) at a
 
-  pub close-fault : 0 < n → Closing text t t header scope w brace next (step.Fault n brace)
+  pub close-fault : 0 < n → Closing text t t header scope w brace next (progressed.Refused n brace)
   unfolding closed unless
   close-fault y =
       record {
@@ -130,14 +131,14 @@ module _ (text t : List ℕ) (header : Header) (scope : Scope) (w : Walk) (brace
         each = λ s st. rw (← fault-of s st, lt-ltb 0 n y) body-fault;
       }
 
-  module _ (g : Fits (length text) scope w) (o : w .closed < w .opened) (past : w .at < next) (inside : next ≤ length text) where
-    low : w .closed < 256
+  module _ (g : FitsText (length text) scope w) (o : w .closed < w .opened) (past : w .at < next) (inside : next ≤ length text) where
+    low : w .closed < definitionLimit
     low = omega (arith, g .opened, o)
 
-    room : w .filed + (w .held - scope .first) ≤ 32768
+    room : w .filed + (w .held - scope .first) ≤ instanceRoom
     room = omega (arith, g .room, g .inside, g .short)
 
-    few : scope .first + (w .held - scope .first) ≤ 32768
+    few : scope .first + (w .held - scope .first) ≤ instanceRoom
     few = omega (arith, g .room, g .inside, g .short, g .first)
 
     abbrev after : List ℕ
@@ -147,10 +148,10 @@ module _ (text t : List ℕ) (header : Header) (scope : Scope) (w : Walk) (brace
     after-kept = filed-kept t (w .closed) (w .filed) (scope .first) (w .held - scope .first) (valueCells (valuesOf c)) (otherCells (rowOf header scope w c)) refl refl low room few
 
     module _ (s : State) (st : Standing text t scope w s) where
-      value-cell : (k : ℕ) → k < 7 → cellOf after (w .closed * 16 + k) ≡ getD (valueCells (valuesOf c)) k 0
+      value-cell : (k : ℕ) → k < 7 → cellOf after (w .closed * definitionWidth + k) ≡ getD (valueCells (valuesOf c)) k 0
       value-cell = filed-value t (w .closed) (w .filed) (scope .first) (w .held - scope .first) (valueCells (valuesOf c)) (otherCells (rowOf header scope w c)) refl refl low room few (st .long)
 
-      other-cell : (k : ℕ) → k < 5 → cellOf after (w .closed * 16 + 7 + k) ≡ getD (otherCells (rowOf header scope w c)) k 0
+      other-cell : (k : ℕ) → k < 5 → cellOf after (w .closed * definitionWidth + 7 + k) ≡ getD (otherCells (rowOf header scope w c)) k 0
       other-cell = filed-other t (w .closed) (w .filed) (scope .first) (w .held - scope .first) (valueCells (valuesOf c)) (otherCells (rowOf header scope w c)) refl refl low room few (st .long)
 
       moved-cell : (k : ℕ) → k < w .held - scope .first → cellOf after (filedAt + w .filed + k) ≡ cellOf t (openAt + scope .first + k)
@@ -158,19 +159,22 @@ module _ (text t : List ℕ) (header : Header) (scope : Scope) (w : Walk) (brace
 
       values-filed : valuesIn after (w .closed) ≡ valuesOf c
       values-filed =
-          let z : w .closed * 16 + 0 ≡ w .closed * 16 = omega arith in
+          let z : w .closed * definitionWidth + 0 ≡ w .closed * definitionWidth = omega arith in
           values-of-cells after (w .closed) (valuesOf c) (rw z at (value-cell 0 (omega arith))) (value-cell 1 (omega arith)) (value-cell 2 (omega arith)) (value-cell 3 (omega arith))
           (value-cell 4 (omega arith)) (value-cell 5 (omega arith)) (value-cell 6 (omega arith))
 
       -- the cells of the row behind the component's values
-      other : (k i : ℕ) → k < 5 → w .closed * 16 + 7 + k ≡ i → cellOf after i ≡ getD (otherCells (rowOf header scope w c)) k 0
+      other : (k i : ℕ) → k < 5 → w .closed * definitionWidth + 7 + k ≡ i → cellOf after i ≡ getD (otherCells (rowOf header scope w c)) k 0
       other k i l z = rw z at (other-cell k l)
 
       first-filed : firstIn after (w .closed) ≡ w .filed
-      first-filed = other 0 (w .closed * 16 + 7) (omega arith) (omega arith)
+      first-filed = other 0 (w .closed * definitionWidth + 7) (omega arith) (omega arith)
 
       abbrev filed : Definition
-      filed = record { component = componentOf (header .kind) (nearest (s .assigned .own) (scope .defaults)); instances = s .held }
+      filed = record { name = nameOr (header .name); component = componentOf (header .kind) (nearest (s .assigned .own) (scope .defaults)); instances = s .held }
+
+      name-filed : nameIn after (w .closed) ≡ filed .name
+      name-filed = name-of-cells after (w .closed) (nameOr (header .name)) (other 2 (w .closed * definitionWidth + 9) (omega arith) (omega arith)) (other 3 (w .closed * definitionWidth + 10) (omega arith) (omega arith))
 
       component-filed : componentIn after (w .closed) ≡ filed .component
       component-filed =
@@ -181,9 +185,10 @@ module _ (text t : List ℕ) (header : Header) (scope : Scope) (w : Walk) (brace
       row-filed : IsRow text after (w .filed + (w .held - scope .first)) (w .closed) filed
       row-filed =
           record {
+            name = name-filed;
             component = component-filed;
             instances = rw first-filed (block-moved (λ j l. moved-cell j (omega (arith, l, st .count))) (st .held));
-            count = other 1 (w .closed * 16 + 8) (omega arith) (omega arith) ∙ (omega (arith, st .count));
+            count = other 1 (w .closed * definitionWidth + 8) (omega arith) (omega arith) ∙ (omega (arith, st .count));
             within = rw first-filed (omega (arith, st .count));
           }
 
@@ -210,16 +215,16 @@ module _ (text t : List ℕ) (header : Header) (scope : Scope) (w : Walk) (brace
             rows = record { count = omega (arith, length-more (s .known .table) filed, st .rows .count); each = each-row };
             named = λ d q.
                 let z : w .closed ≡ d = omega (arith, q) in
-                rw (← z) (name-of-cells after (w .closed) (nameOr (header .name)) (other 2 (w .closed * 16 + 9) (omega arith) (omega arith)) (other 3 (w .closed * 16 + 10) (omega arith) (omega arith)));
+                rw (← z) name-filed;
             below = λ d q.
                 let z : w .closed ≡ d = omega (arith, q) in
-                rw (← z) (below-of-cell after (w .closed) (scope .base) (other 4 (w .closed * 16 + 11) (omega arith) (omega arith)) (omega (arith, g .base, g .head)));
+                rw (← z) (below-of-cell after (w .closed) (scope .base) (other 4 (w .closed * definitionWidth + 11) (omega arith) (omega arith)) (omega (arith, g .base, g .head)));
             kind-of = λ d q.
                 let z : w .closed ≡ d = omega (arith, q) in
                 rw (← z) (rw last-filed (kind-of-component (header .kind) (nearest (s .assigned .own) (scope .defaults))));
           }
 
-    pub close-on : n ≤ 0 → {u : List ℕ} {v : Walk} → u ≡ filedCells t header scope w c → v ≡ closedWalk scope w next → Closing text t u header scope w brace next (step.On v)
+    pub close-on : n ≤ 0 → {u : List ℕ} {v : Progress} → u ≡ filedCells t header scope w c → v ≡ closedWalk scope w next → Closing text t u header scope w brace next (progressed.Done v)
     unfolding closed unless filedCells
     close-on y {u} x z =
         rw (x, z)

@@ -1,50 +1,48 @@
 -- The head of a definition: the faults before its body.
-use mathlib.Core.Path.{_≡_, refl, sym, ap, _∙_}
-use mathlib.Core.Bool.{Bool, true, false, not, _||_}
-use mathlib.Core.List.{List, [], _∷_}
-use Prim.Native.Nat.{ℕ, zero, suc, _+_, _<_, _≤_}
+use mathlib.Core.Path.{_≡_, sym, _∙_}
+use mathlib.Core.Bool.{Bool, true, false}
+use mathlib.Core.List.{List}
+use Prim.Native.Nat.{ℕ, _<_, _≤_}
 use native.Mathlib.Omega.{arith}
-use lib.Dec.{leb}
 use borrow.Author.Tests.{le-leb, lt-leb}
 use Rattle.parts.specs.declared.Name.{Name}
 use Rattle.parts.specs.declared.Header.{Header}
 use Rattle.parts.specs.declared.DefinedName.{DefinedName}
 use Rattle.parts.specs.declared.DefinedName.the-variants.{Unnamed, Named}
-use Rattle.suffixes.specs.declared.Fault.{Fault}
-use Rattle.suffixes.specs.declared.Fault.the-variants.{Sound, Broken}
-use Rattle.properties.specs.Judged.{Judged, fault, fine, unless}
-use Rattle.properties.specs.Assigned.{isGiven}
-use Rattle.properties.specs.declared.Given.{Given}
-use Rattle.table.specs.Definitions.{Entry, lookup}
-use Rattle.table.specs.Decoded.{typesIn}
-use Rattle.table.specs.Relation.{Chain}
-use Rattle.table.proofs.Laws.{chain-types}
-use Rattle.places.specs.Places.{mayDefine, isBadMap}
-use Rattle.places.specs.declared.Walk.{Walk}
-use Rattle.places.specs.declared.Scope.{Scope}
-use Rattle.rules.specs.Limits.{definitionLimit}
-use Rattle.rules.specs.Judge.{State, typeTwice, namePlace, found}
-use Rattle.rules.specs.Standing.{Standing, HeaderFault, NameFault}
+use Rattle.basics.specs.declared.Fault.{Fault}
+use Rattle.basics.specs.declared.Fault.the-variants.{None, Refused}
+use Rattle.basics.specs.Judged.{unless}
+use Rattle.basics.specs.Given.{isGiven}
+use Rattle.basics.specs.declared.Given.{Given}
+use Rattle.cells.specs.Definitions.{VisibleType, lookup}
+use Rattle.cells.specs.Decoded.{typesIn}
+use Rattle.cells.specs.Relation.{Chain}
+use Rattle.cells.proofs.Laws.{chain-types}
+use Rattle.scopes.specs.Places.{mayDefine, isBadMap}
+use Rattle.scopes.specs.declared.Progress.{Progress}
+use Rattle.scopes.specs.declared.Scope.{Scope}
+use Rattle.basics.specs.Limits.{definitionLimit}
+use Rattle.rules.specs.Standing.{HeaderFault, NameFault}
 
 module _ (text t : List ℕ) (base head : ℕ) (name : DefinedName) where
-  pub name-unnamed : name ≡ Unnamed → NameFault text t base head name Sound
+  pub name-unnamed : name ≡ Unnamed → NameFault text t base head name None
   unfolding unless
   name-unnamed e = record { each = λ here c rest. rw e }
 
   module _ {n : Name} {m : Given} {b : Bool} (e : name ≡ Named n) (f : m ≡ lookup text n (typesIn t base head)) (g : b ≡ isGiven m) where
-    meant : (here : List Entry) → Chain t base head here → lookup text n here ≡ m
+    meant : (here : List VisibleType) → Chain t base head here → lookup text n here ≡ m
     meant here c = rw (← chain-types head (omega arith) c) (sym f)
 
-    pub name-twice : b ≡ true → NameFault text t base head name (Broken 6 (n .start))
+    pub name-twice : b ≡ true → NameFault text t base head name (Refused 6 (n .start))
     unfolding unless
     name-twice y = record { each = λ here c rest. rw (e, meant here c, ← g, y) }
 
-    pub name-once : b ≡ false → NameFault text t base head name Sound
+    pub name-once : b ≡ false → NameFault text t base head name None
     unfolding unless
     name-once y = record { each = λ here c rest. rw (e, meant here c, ← g, y) }
 
-module _ (text t : List ℕ) (scope : Scope) (w : Walk) (h : Header) {d : Bool} (e : d ≡ mayDefine (scope .place) (h .kind)) where
-  pub header-kind : d ≡ false → HeaderFault text t scope w h (Broken 10 (h .place))
+module _ (text t : List ℕ) (scope : Scope) (w : Progress) (h : Header) {d : Bool} (e : d ≡ mayDefine (scope .enclosing) (h .kind)) where
+  pub header-kind : d ≡ false → HeaderFault text t scope w h (Refused 10 (h .place))
   unfolding unless
   header-kind y =
       record {
@@ -53,7 +51,7 @@ module _ (text t : List ℕ) (scope : Scope) (w : Walk) (h : Header) {d : Bool} 
       }
 
   module _ (f : d ≡ true) {b : Bool} (g : b ≡ isBadMap (w .map) h) where
-    pub header-map : b ≡ true → HeaderFault text t scope w h (Broken 10 (h .place))
+    pub header-map : b ≡ true → HeaderFault text t scope w h (Refused 10 (h .place))
     unfolding unless
     header-map y =
         record {
@@ -62,7 +60,7 @@ module _ (text t : List ℕ) (scope : Scope) (w : Walk) (h : Header) {d : Bool} 
         }
 
     module _ (k : b ≡ false) where
-      pub header-limit : definitionLimit ≤ w .opened → HeaderFault text t scope w h (Broken 18 (h .place))
+      pub header-limit : definitionLimit ≤ w .opened → HeaderFault text t scope w h (Refused 18 (h .place))
       unfolding unless
       header-limit y =
           record {

@@ -1,30 +1,29 @@
 -- Instances: the faults of one, and one more in the cells.
 use mathlib.Core.Path.{_≡_, refl, sym, ap, _∙_}
-use mathlib.Core.Bool.{Bool, true, false, not}
+use mathlib.Core.Bool.{Bool, true, false}
 use mathlib.Core.List.{List, [], _∷_, _++_}
-use Prim.Native.Nat.{ℕ, zero, suc, _+_, _-_, _*_, _<_, _≤_}
+use Prim.Native.Nat.{ℕ, suc, _+_, _-_, _<_, _≤_}
 use native.Mathlib.Omega.{arith}
-use lib.ListN.{length, getD, set, length-set, length-append}
+use lib.ListN.{length, set, length-set}
 use lib.Seq.{getD-set-same, getD-set-other}
-use Rattle.parts.specs.Reading.{Parsed, ok, stop}
-use Rattle.parts.specs.Parts.{instanceAt}
 use Rattle.parts.specs.declared.Kind.{Kind}
 use Rattle.parts.specs.declared.Instance.{Instance}
 use Rattle.suffixes.specs.Suffixes.{instanceFault}
-use Rattle.suffixes.specs.declared.Fault.{Fault}
-use Rattle.suffixes.specs.declared.Fault.the-variants.{Sound, Broken}
-use Rattle.names.specs.Names.{isAmong, fingerprint}
-use Rattle.properties.specs.Judged.{Judged, fault, fine, unless}
-use Rattle.components.specs.Components.{kindOf}
-use Rattle.table.specs.Cells.{cellOf, filedAt, openAt, size, entryOf, placeIn, rowIn, printIn}
-use Rattle.table.specs.Definitions.{Child, Definition, definitionOf, namesOf}
-use Rattle.table.specs.Decoded.{someNamed}
-use Rattle.table.specs.Relation.{IsEntry, Block}
-use Rattle.table.proofs.Laws.{entry-place, entry-row, entry-print, block-named}
-use Rattle.places.specs.Places.{mayHold}
-use Rattle.places.specs.declared.Scope.{Scope}
-use Rattle.rules.specs.Judge.{judgeInstances, found}
-use Rattle.rules.specs.Standing.{Kept, InstanceRules, Listed, Typed, Added, added-not, added-one, Adds}
+use Rattle.basics.specs.Limits.{definitionLimit}
+use Rattle.basics.specs.declared.Fault.{Fault}
+use Rattle.basics.specs.declared.Fault.the-variants.{None, Refused}
+use Rattle.identifiers.specs.Names.{isAmong, fingerprint}
+use Rattle.basics.specs.Judged.{unless}
+use Rattle.basics.specs.Slices.{cellOf}
+use Rattle.cells.specs.Cells.{openAt, entryOf, instanceRoom, entryPlaces}
+use Rattle.cells.specs.Definitions.{Child, namesOf}
+use Rattle.cells.specs.Decoded.{someNamed}
+use Rattle.cells.specs.Relation.{IsEntry, Block}
+use Rattle.cells.proofs.Laws.{entry-place, entry-row, entry-print, block-named}
+use Rattle.scopes.specs.Places.{mayHold}
+use Rattle.scopes.specs.declared.Scope.{Scope}
+use Rattle.rules.specs.Judge.{judgeInstances}
+use Rattle.rules.specs.Standing.{Kept, InstanceRules, added-not, added-one, Adds}
 use Rattle.rules.proofs.Frames.{kept-same, block-kept, block-more, sounds-more}
 
 -- a path between two different constructors
@@ -36,7 +35,7 @@ module _ (text t : List ℕ) (scope : Scope) (held : ℕ) (kind : Kind) (i : Ins
   among : (cs : List Child) → Block text t (openAt + scope .first) cs → held ≡ scope .first + length cs → h ≡ isAmong text (i .name) (namesOf cs)
   among cs b q = let n : openAt + held - (openAt + scope .first) ≡ length cs = omega (arith, q) in a ∙ (rw n (block-named text t (i .name) b))
 
-  pub rules-twice : h ≡ true → InstanceRules text t scope held kind i (Broken 6 (i .name .start))
+  pub rules-twice : h ≡ true → InstanceRules text t scope held kind i (Refused 6 (i .name .start))
   unfolding unless
   rules-twice y =
       record {
@@ -44,8 +43,8 @@ module _ (text t : List ℕ) (scope : Scope) (held : ℕ) (kind : Kind) (i : Ins
         each = λ cs b q rest. rw (sym (among cs b q) ∙ y);
       }
 
-  module _ (n : h ≡ false) {m : Bool} (e : m ≡ mayHold (scope .place) kind) where
-    pub rules-kind : m ≡ false → InstanceRules text t scope held kind i (Broken 10 (i .name .start))
+  module _ (n : h ≡ false) {m : Bool} (e : m ≡ mayHold (scope .enclosing) kind) where
+    pub rules-kind : m ≡ false → InstanceRules text t scope held kind i (Refused 10 (i .name .start))
     unfolding unless
     rules-kind y =
         record {
@@ -63,7 +62,7 @@ length-more (y ∷ xs) x = ap suc (length-more xs x)
 
 -- an instance in the cell behind those of the open bodies
 module _ (t : List ℕ) (held x : ℕ) where
-  pub put-kept : (n f : ℕ) → n ≤ 256 → f ≤ 32768 → Kept t (set t (openAt + held) x) n f held
+  pub put-kept : (n f : ℕ) → n ≤ definitionLimit → f ≤ instanceRoom → Kept t (set t (openAt + held) x) n f held
   put-kept n f a b =
       record {
         long = length-set t (openAt + held) x;
@@ -73,16 +72,16 @@ module _ (t : List ℕ) (held x : ℕ) where
       }
 
 module _ (text t : List ℕ) (scope : Scope) (row : ℕ) (kind : Kind) (at held : ℕ) (i : Instance) where
-  pub add-not : {n p : ℕ} {r : Fault} → InstanceRules text t scope held kind i r → r ≡ Broken n p → Adds text t t scope row kind at held i (Broken n p)
+  pub add-not : {n p : ℕ} {r : Fault} → InstanceRules text t scope held kind i r → r ≡ Refused n p → Adds text t t scope row kind at held i (Refused n p)
   unfolding judgeInstances
   add-not {n} {p} r e =
       record {
         kept = λ x y a b. kept-same;
-        each = λ m table cs reads typed l. added-not {n = n} {p = p} (λ is. sym (r .each cs (l .block) (l .count) (judgeInstances text (scope .place) kind row is (cs ++ (record { instance = i; type = row } ∷ [])))) ∙ (rw e));
+        each = λ m table cs reads typed l. added-not {n = n} {p = p} (λ is. sym (r .each cs (l .block) (l .count) (judgeInstances text (scope .enclosing) kind row is (cs ++ (record { instance = i; type = row } ∷ [])))) ∙ (rw e));
       }
 
-  pub add-one : {u : List ℕ} {r : Fault} → held < 32768 → at < 131072 → row < 256 → InstanceRules text t scope held kind i r → r ≡ Sound
-      → u ≡ set t (openAt + held) (entryOf at row (fingerprint text (i .name))) → Adds text t u scope row kind at held i Sound
+  pub add-one : {u : List ℕ} {r : Fault} → held < instanceRoom → at < entryPlaces → row < definitionLimit → InstanceRules text t scope held kind i r → r ≡ None
+      → u ≡ set t (openAt + held) (entryOf at row (fingerprint text (i .name))) → Adds text t u scope row kind at held i None
   unfolding judgeInstances
   add-one {u} a b c r e s =
       let x : ℕ = entryOf at row (fingerprint text (i .name)) in
@@ -102,5 +101,5 @@ module _ (text t : List ℕ) (scope : Scope) (row : ℕ) (kind : Kind) (at held 
               count = omega (arith, l .count, length-more cs (record { instance = i; type = row }));
               sound = sounds-more (record { instance = i; type = row }) (l .sound) (typed .low) (rw (typed .kind-of) (r .sound e));
             })
-            (λ is. sym (r .each cs (l .block) (l .count) (judgeInstances text (scope .place) kind row is (cs ++ (record { instance = i; type = row } ∷ [])))) ∙ (rw e)));
+            (λ is. sym (r .each cs (l .block) (l .count) (judgeInstances text (scope .enclosing) kind row is (cs ++ (record { instance = i; type = row } ∷ [])))) ∙ (rw e)));
       }

@@ -1,35 +1,35 @@
 -- A list of instances, one after another.
 use mathlib.Core.Path.{_≡_, refl, sym, ap, _∙_}
 use mathlib.Core.Bool.{Bool, true, false}
-use mathlib.Core.List.{List, [], _∷_, _++_}
-use Prim.Native.Nat.{ℕ, zero, suc, _+_, _-_, _*_, _<_, _≤_}
+use mathlib.Core.List.{List, [], _∷_}
+use Prim.Native.Nat.{ℕ, suc, _+_, _-_, _*_, _<_, _≤_}
 use native.Mathlib.Omega.{arith}
 use lib.ListN.{length}
-use Rattle.chars.specs.Choice.{if_then_else_}
+use Rattle.basics.specs.Limits.{textLimit, definitionLimit}
+use Rattle.basics.specs.Choice.{if_then_else_}
 use Rattle.lex.specs.Token.{tokenAt}
 use Rattle.vocabulary.specs.declared.Mark.the-variants as mark
-use Rattle.parts.specs.Reading.{Parsed, ok, stop, andThen}
+use Rattle.parts.specs.Reading.{ok, stop}
 use Rattle.parts.specs.Words.{isMark}
 use Rattle.parts.specs.Parts.{instanceAt, partedAt, listedAt}
 use Rattle.parts.specs.declared.Kind.{Kind}
 use Rattle.parts.specs.declared.Instance.{Instance}
-use Rattle.parts.specs.declared.Listed.{Listed as Item}
-use Rattle.parts.specs.declared.ListedReading.{ListedReading}
-use Rattle.parts.specs.declared.ListedReading.the-variants as reading
+use Rattle.parts.specs.declared.ListItem.{ListItem}
+use Rattle.parts.specs.declared.ListItemReading.{ListItemReading}
+use Rattle.parts.specs.declared.ListItemReading.the-variants as reading
 use Rattle.parts.specs.Answers.{listedRead}
-use Rattle.parts.proofs.Ends.{Ends, ends-of, ends-then, instance-ends, mark-past}
-use Rattle.suffixes.specs.declared.Fault.{Fault}
-use Rattle.suffixes.specs.declared.Fault.the-variants.{Sound, Broken}
+use Rattle.parts.proofs.Ends.{ends-of, instance-ends, mark-past}
+use Rattle.basics.specs.declared.Fault.{Fault}
+use Rattle.basics.specs.declared.Fault.the-variants.{None, Refused}
 use Rattle.syntax.specs.Grammar.{instancesAt}
-use Rattle.syntax.proofs.Derive.{Steps as Two, then-steps, Lists as Derived, lists-last, lists-more, instances-lists}
-use Rattle.properties.specs.Judged.{Judged, fault, fine}
-use Rattle.table.specs.Cells.{openAt, size}
-use Rattle.table.specs.Definitions.{Child, Definition}
-use Rattle.places.specs.declared.Scope.{Scope}
-use Rattle.places.specs.declared.Listing.{Listing}
-use Rattle.places.specs.declared.Listing.the-variants as listing
+use Rattle.syntax.proofs.Derive.{then-steps, Lists as Derived, lists-last, lists-more, instances-lists}
+use Rattle.basics.specs.Judged.{Judged, fault, fine}
+use Rattle.cells.specs.Cells.{instanceRoom, entryPlaces}
+use Rattle.cells.specs.Definitions.{Child, Definition}
+use Rattle.scopes.specs.declared.Scope.{Scope}
+use Rattle.scopes.specs.declared.ListJudged.the-variants as listJudged
 use Rattle.rules.specs.Judge.{judgeInstances}
-use Rattle.rules.specs.Standing.{Kept, Listed, Typed, Added, added-not, added-one, Adds, ListMatches, list-fault, list-done, ListMoves, list-stops, list-moves, Lists}
+use Rattle.rules.specs.Standing.{Kept, HeldList, Typed, Added, added-not, added-one, Adds, ListMatches, list-fault, list-done, list-stops, list-moves, Lists}
 use Rattle.rules.proofs.Frames.{kept-same, kept-then}
 
 never : {X A : Type 0} {n p m : ℕ} {a : A} → stop n p ≡ ok a m → X
@@ -37,7 +37,7 @@ never e = absurd (let z : _≡_ {A = ℕ} 0 1 = cc in omega arith)
 
 module _ (t : List ℕ) where
   -- what stands behind an instance is a mark
-  parted : (i : Instance) (at : ℕ) {l : Item} {n : ℕ} → partedAt i t at ≡ ok l n → (l .instance ≡ i) × (suc at ≤ n) × (n ≤ length t)
+  parted : (i : Instance) (at : ℕ) {l : ListItem} {n : ℕ} → partedAt i t at ≡ ok l n → (l .instance ≡ i) × (suc at ≤ n) × (n ≤ length t)
   unfolding partedAt
   parted i at {l} {n} = by (isMark mark.Semicolon (tokenAt t at .word)) (isMark mark.Comma (tokenAt t at .word)) refl refl
     where
@@ -49,13 +49,13 @@ module _ (t : List ℕ) where
       by false false e f q = never q
 
   -- an instance of a list takes two bytes at least
-  pub record Read (at : ℕ) (l : Item) (n : ℕ) : Type 0 where
+  pub record Read (at : ℕ) (l : ListItem) (n : ℕ) : Type 0 where
     pub behind : ℕ
     pub instance-read : instanceAt t at ≡ ok (l .instance) behind
     pub past : at + 2 ≤ n
     pub inside : n ≤ length t
 
-  pub listed-read : (at : ℕ) {l : Item} {n : ℕ} → listedAt t at ≡ ok l n → Read at l n
+  pub listed-read : (at : ℕ) {l : ListItem} {n : ℕ} → listedAt t at ≡ ok l n → Read at l n
   unfolding listedAt
   listed-read at {l} {n} q =
       let s = then-steps (instanceAt t at) _ q in
@@ -68,15 +68,15 @@ pub record Rest (text t : List ℕ) (scope : Scope) (row : ℕ) (kind : Kind) (a
   pub left : List Instance
   pub children : List Child
   pub reads : Derived text at left n
-  pub listed : Listed text t (scope .first) table held children
-  pub same : judgeInstances text (scope .place) kind row left children ≡ answer
+  pub listed : HeldList text t (scope .first) table held children
+  pub same : judgeInstances text (scope .enclosing) kind row left children ≡ answer
 
 pub record Going (text t₀ t : List ℕ) (scope : Scope) (row : ℕ) (kind : Kind) (start before at held : ℕ) : Type 0 where
   pub low : before ≤ held
   pub room : 2 * held + start ≤ 2 * before + at
-  pub kept : (n f : ℕ) → n ≤ 256 → f ≤ 32768 → Kept t₀ t n f before
+  pub kept : (n f : ℕ) → n ≤ definitionLimit → f ≤ instanceRoom → Kept t₀ t n f before
   pub each : (is : List Instance) (n : ℕ) (table : List Definition) (cs : List Child) → instancesAt text start ≡ ok is n → Typed table row kind
-      → Listed text t₀ (scope .first) table before cs → Rest text t scope row kind at held n table (judgeInstances text (scope .place) kind row is cs)
+      → HeldList text t₀ (scope .first) table before cs → Rest text t scope row kind at held n table (judgeInstances text (scope .enclosing) kind row is cs)
 
 module _ (text t₀ : List ℕ) (scope : Scope) (row : ℕ) (kind : Kind) (start before : ℕ) where
   pub going-start : Going text t₀ t₀ scope row kind start before start before
@@ -88,8 +88,8 @@ module _ (text t₀ : List ℕ) (scope : Scope) (row : ℕ) (kind : Kind) (start
         each = λ is n table cs q typed l. record { left = is; children = cs; reads = instances-lists text start q; listed = l; same = refl };
       }
 
-  module _ {t : List ℕ} {at held : ℕ} (g : Going text t₀ t scope row kind start before at held) {x : ListedReading} (e : listedRead x ≡ listedAt text at) where
-    pub going-stop : {m p : ℕ} → x ≡ reading.Stop m p → Lists text t₀ t scope row kind start before (listing.Fault m p)
+  module _ {t : List ℕ} {at held : ℕ} (g : Going text t₀ t scope row kind start before at held) {x : ListItemReading} (e : listedRead x ≡ listedAt text at) where
+    pub going-stop : {m p : ℕ} → x ≡ reading.Refused m p → Lists text t₀ t scope row kind start before (listJudged.Refused m p)
     going-stop {m} {p} f =
         record {
           kept = g .kept;
@@ -104,7 +104,7 @@ module _ (text t₀ : List ℕ) (scope : Scope) (row : ℕ) (kind : Kind) (start
         refused (lists-last q h) = never (w ∙ q)
         refused (lists-more q h r) = never (w ∙ q)
 
-    module _ {l : Item} {next : ℕ} (f : x ≡ reading.Done l next) where
+    module _ {l : ListItem} {next : ℕ} (f : x ≡ reading.Done l next) where
       item : listedAt text at ≡ ok l next
       item = sym (rw f at e)
 
@@ -112,13 +112,13 @@ module _ (text t₀ : List ℕ) (scope : Scope) (row : ℕ) (kind : Kind) (start
       item-read = listed-read text at item
 
       -- so the cells of open bodies hold it
-      pub item-room : length text ≤ 65536 → 2 * before ≤ start → held < 32768
+      pub item-room : length text ≤ textLimit → 2 * before ≤ start → held < instanceRoom
       item-room p q = omega (arith, p, q, g .room, item-read .past, item-read .inside)
 
       pub item-falls : length text - next < length text - at
       item-falls = omega (arith, item-read .past, item-read .inside)
 
-      pub item-low : length text ≤ 65536 → at < 131072
+      pub item-low : length text ≤ textLimit → at < entryPlaces
       item-low p = omega (arith, p, item-read .past, item-read .inside)
 
       -- the list starts with this instance
@@ -141,30 +141,30 @@ module _ (text t₀ : List ℕ) (scope : Scope) (row : ℕ) (kind : Kind) (start
 
       -- the instances behind this one, or none where it broke a rule
       data Next (u : List ℕ) (n : ℕ) (table : List Definition) (answer : Judged (List Child)) : Fault → Type 0 where
-        next-not : {m p : ℕ} → fault m p ≡ answer → Next u n table answer (Broken m p)
+        next-not : {m p : ℕ} → fault m p ≡ answer → Next u n table answer (Refused m p)
         next-one : {others : List Instance} {ds : List Child} → (l .last ≡ true → (others ≡ []) × (n ≡ next)) → (l .last ≡ false → Derived text next others n)
-            → Listed text u (scope .first) table (suc held) ds → judgeInstances text (scope .place) kind row others ds ≡ answer → Next u n table answer Sound
+            → HeldList text u (scope .first) table (suc held) ds → judgeInstances text (scope .enclosing) kind row others ds ≡ answer → Next u n table answer None
 
       module _ {u : List ℕ} {r : Fault} (a : Adds text t u scope row kind at held (l .instance) r) where
-        keeps : (n f : ℕ) → n ≤ 256 → f ≤ 32768 → Kept t₀ u n f before
+        keeps : (n f : ℕ) → n ≤ definitionLimit → f ≤ instanceRoom → Kept t₀ u n f before
         keeps n f p q = kept-then (g .kept n f p q) (a .kept n f p q) (omega arith) (omega arith) (g .low)
 
         pub going-long : length u ≡ length t₀
         going-long = keeps 0 0 (omega arith) (omega arith) .long
 
         step : (is : List Instance) (n : ℕ) (table : List Definition) (cs : List Child) → instancesAt text start ≡ ok is n → Typed table row kind
-            → Listed text t₀ (scope .first) table before cs → Next u n table (judgeInstances text (scope .place) kind row is cs) r
+            → HeldList text t₀ (scope .first) table before cs → Next u n table (judgeInstances text (scope .enclosing) kind row is cs) r
         step is n table cs q typed b =
             let w = g .each is n table cs q typed b in
             let h = head (w .reads) in
             by h (rw (h .whole) at (w .same)) (a .each (item-read .behind) table (w .children) (item-read .instance-read) typed (w .listed))
           where
-            by : {is′ : List Instance} {ds : List Child} {r : Fault} (h : Head is′ n) → judgeInstances text (scope .place) kind row (l .instance ∷ h .others) ds ≡ judgeInstances text (scope .place) kind row is cs
-                → Added text u scope row kind held (l .instance) table ds r → Next u n table (judgeInstances text (scope .place) kind row is cs) r
+            by : {is′ : List Instance} {ds : List Child} {r : Fault} (h : Head is′ n) → judgeInstances text (scope .enclosing) kind row (l .instance ∷ h .others) ds ≡ judgeInstances text (scope .enclosing) kind row is cs
+                → Added text u scope row kind held (l .instance) table ds r → Next u n table (judgeInstances text (scope .enclosing) kind row is cs) r
             by h e (added-not d) = next-not (sym (d (h .others)) ∙ e)
             by h e (added-one {ds = ds} c d) = next-one {others = h .others} {ds = ds} (h .none) (h .more) c (sym (d (h .others)) ∙ e)
 
-        pub going-broken : {m p : ℕ} → r ≡ Broken m p → Lists text t₀ u scope row kind start before (listing.Fault m p)
+        pub going-broken : {m p : ℕ} → r ≡ Refused m p → Lists text t₀ u scope row kind start before (listJudged.Refused m p)
         going-broken {m} {p} y =
             record {
               kept = keeps;
@@ -172,11 +172,11 @@ module _ (text t₀ : List ℕ) (scope : Scope) (row : ℕ) (kind : Kind) (start
               each = λ is n table cs q typed b. by y (step is n table cs q typed b);
             }
           where
-            by : {x : Fault} {n : ℕ} {table : List Definition} {answer : Judged (List Child)} → x ≡ Broken m p → Next u n table answer x → ListMatches text u (scope .first) n table answer (listing.Fault m p)
+            by : {x : Fault} {n : ℕ} {table : List Definition} {answer : Judged (List Child)} → x ≡ Refused m p → Next u n table answer x → ListMatches text u (scope .first) n table answer (listJudged.Refused m p)
             by e (next-not {m = m′} {p = p′} z) = let a : m′ ≡ m = cc in let b : p′ ≡ p = cc in rw (← z, a, b) list-fault
             by e (next-one p q c d) = absurd (let z : _≡_ {A = ℕ} 0 1 = cc in omega arith)
 
-        pub going-last : r ≡ Sound → l .last ≡ true → Lists text t₀ u scope row kind start before (listing.Done (held + 1) next)
+        pub going-last : r ≡ None → l .last ≡ true → Lists text t₀ u scope row kind start before (listJudged.Done (held + 1) next)
         unfolding judgeInstances
         going-last y z =
             record {
@@ -185,7 +185,7 @@ module _ (text t₀ : List ℕ) (scope : Scope) (row : ℕ) (kind : Kind) (start
               each = λ is n table cs q typed b. by y (step is n table cs q typed b);
             }
           where
-            by : {x : Fault} {n : ℕ} {table : List Definition} {answer : Judged (List Child)} → x ≡ Sound → Next u n table answer x → ListMatches text u (scope .first) n table answer (listing.Done (held + 1) next)
+            by : {x : Fault} {n : ℕ} {table : List Definition} {answer : Judged (List Child)} → x ≡ None → Next u n table answer x → ListMatches text u (scope .first) n table answer (listJudged.Done (held + 1) next)
             by e (next-not w) = absurd (let o : _≡_ {A = ℕ} 0 1 = cc in omega arith)
             by {n = n} {table} {answer} e (next-one {others = others} {ds = ds} p q c d) =
                 let o = p z in
@@ -193,7 +193,7 @@ module _ (text t₀ : List ℕ) (scope : Scope) (row : ℕ) (kind : Kind) (start
                 let w : fine ds ≡ answer = (rw (o .0) at d) in
                 rw (← w, ← o .1, ← s) (list-done c)
 
-        pub going-more : r ≡ Sound → l .last ≡ false → Going text t₀ u scope row kind start before next (held + 1)
+        pub going-more : r ≡ None → l .last ≡ false → Going text t₀ u scope row kind start before next (held + 1)
         going-more y z =
             record {
               low = omega (arith, g .low);
@@ -202,7 +202,7 @@ module _ (text t₀ : List ℕ) (scope : Scope) (row : ℕ) (kind : Kind) (start
               each = λ is n table cs q typed b. by y (step is n table cs q typed b);
             }
           where
-            by : {x : Fault} {n : ℕ} {table : List Definition} {answer : Judged (List Child)} → x ≡ Sound → Next u n table answer x → Rest text u scope row kind next (held + 1) n table answer
+            by : {x : Fault} {n : ℕ} {table : List Definition} {answer : Judged (List Child)} → x ≡ None → Next u n table answer x → Rest text u scope row kind next (held + 1) n table answer
             by e (next-not w) = absurd (let o : _≡_ {A = ℕ} 0 1 = cc in omega arith)
             by e (next-one {others = others} {ds = ds} p q c d) =
                 let s : suc held ≡ held + 1 = omega arith in

@@ -2,32 +2,31 @@
 use mathlib.Core.Path.{_≡_, refl, sym, ap, _∙_}
 use mathlib.Core.Bool.{Bool, true, false}
 use mathlib.Core.List.{List, [], _∷_}
-use Prim.Native.Nat.{ℕ, zero, suc, _+_, _<_, _≤_}
+use Prim.Native.Nat.{ℕ, suc, _+_, _<_, _≤_}
 use native.Mathlib.Omega.{arith}
 use lib.Dec.{ltb}
 use lib.ListN.{length, getD}
 use borrow.Author.Tests.{ltb-false}
-use Rattle.chars.specs.Choice.{if_then_else_}
-use Rattle.lex.specs.Limits.{textLimit}
+use Rattle.basics.specs.Choice.{if_then_else_}
+use Rattle.basics.specs.Limits.{textLimit}
 use Rattle.lex.specs.Words.{refused, wordsVerdict, verdictNumbers, firstBad}
 use Rattle.lex.specs.declared.Place.{Place as TextPlace}
 use Rattle.lex.specs.declared.Verdict.{Verdict}
 use Rattle.lex.specs.declared.Verdict.the-variants.{Accepted, Refused}
 use Rattle.parts.specs.Reading.{Parsed, ok, stop}
-use Rattle.parts.specs.Parts.{instanceAt}
 use Rattle.syntax.specs.Tree.{Body}
 use Rattle.syntax.specs.Grammar.{fileAt}
 use Rattle.syntax.specs.Answers.{answerOf, verdictOf as sentenceVerdictOf, sentenceVerdict}
-use Rattle.properties.specs.Judged.{Judged, fault, fine}
-use Rattle.table.specs.Cells.{cellOf, filedAt, size, filedRoom, componentIn, firstIn, countIn, placeIn, rowIn}
-use Rattle.table.specs.Definitions.{Child, Definition, noDefinition}
-use Rattle.table.specs.Relation.{IsEntry, Block, block-end, block-on, IsRow, Holds}
-use Rattle.places.specs.Walks.{verdictOf}
-use Rattle.places.specs.declared.Ruling.{Ruling}
-use Rattle.places.specs.declared.Ruling.the-variants as ruling
-use Rattle.rules.specs.Judge.{Meaning, judge}
+use Rattle.basics.specs.Judged.{Judged, fault}
+use Rattle.cells.specs.Cells.{size, instanceRoom}
+use Rattle.cells.specs.Definitions.{Child, Definition, noDefinition}
+use Rattle.cells.specs.Relation.{Block, block-end, block-on, IsRow, Holds}
+use Rattle.scopes.specs.Walks.{verdictOf}
+use Rattle.scopes.specs.declared.Ruling.{Ruling}
+use Rattle.scopes.specs.declared.Ruling.the-variants as ruling
+use Rattle.rules.specs.Judge.{Meaning}
 use Rattle.rules.specs.Standing.{FileMatches, file-fault, file-map, Rules}
-use Rattle.rules.specs.Rules.{afterWords, afterSentences, ruled, judgedVerdict, rulesVerdict, judgedNumbers, withInstance, instancesIn, definitionIn, definitionsIn, ruledAs, Held, held-not, held-all, Worked}
+use Rattle.rules.specs.Rules.{afterSentences, ruled, judgedVerdict, rulesVerdict, judgedNumbers, instancesIn, definitionIn, definitionsIn, ruledAs, Held, held-not, held-all, Worked}
 use Rattle.rules.proofs.Frames.{row-later}
 
 -- the cells say what they hold
@@ -37,7 +36,7 @@ instances-said block-end = refl
 instances-said (block-on e b) = rw (e .reads, e .type, instances-said b)
 
 pub definition-said : {text t : List ℕ} {filed r : ℕ} {d : Definition} → IsRow text t filed r d → definitionIn text t r ≡ d
-definition-said w = rw (w .component, w .count, instances-said (w .instances))
+definition-said w = rw (w .name, w .component, w .count, instances-said (w .instances))
 
 definitions-said : (text t : List ℕ) (r : ℕ) (table : List Definition) → ((j : ℕ) → j < length table → definitionIn text t (r + j) ≡ getD table j noDefinition) → definitionsIn text t r (length table) ≡ table
 unfolding definitionsIn
@@ -51,30 +50,30 @@ pub table-said : {text t : List ℕ} {closed filed : ℕ} {table : List Definiti
 table-said {text} {t} {table = table} h = rw (← h .count) (definitions-said text t 0 table (λ j l. let z : 0 + j ≡ j = omega arith in rw z (definition-said (h .each j (omega (arith, l, h .count))))))
 
 -- a text that the word stage accepts is short
-pub words-short : (text : List ℕ) {v : Verdict} → v ≡ wordsVerdict text → v ≡ Accepted → length text ≤ 65536
+pub words-short : (text : List ℕ) {v : Verdict} → v ≡ wordsVerdict text → v ≡ Accepted → length text ≤ textLimit
 unfolding wordsVerdict
 words-short text e f = by (ltb textLimit (length text)) refl (sym e ∙ f)
   where
-    by : (b : Bool) → ltb textLimit (length text) ≡ b → (if b then refused 1 0 else firstBad (length text + 1) text 0) ≡ Accepted → length text ≤ 65536
+    by : (b : Bool) → ltb textLimit (length text) ≡ b → (if b then refused 1 0 else firstBad (length text + 1) text 0) ≡ Accepted → length text ≤ textLimit
     by true q r = absurd (let z : _≡_ {A = ℕ} 0 1 = cc in omega arith)
     by false q r = ltb-false textLimit (length text) q
 
 -- what stands among the first instances stands in the room for all of them
-holds-room : {text t : List ℕ} {closed filed : ℕ} {table : List Definition} → filed ≤ filedRoom → Holds text t closed filed table → Holds text t closed filedRoom table
+holds-room : {text t : List ℕ} {closed filed : ℕ} {table : List Definition} → filed ≤ instanceRoom → Holds text t closed filed table → Holds text t closed instanceRoom table
 holds-room few h = record { count = h .count; each = λ r l. row-later few (h .each r l) }
 
 -- words and sentences leave the cells alone
-pub worked-untouched : (text t : List ℕ) {n p : ℕ} → Worked text t t (ruling.Fault n p)
+pub worked-untouched : (text t : List ℕ) {n p : ℕ} → Worked text t t (ruling.Refused n p)
 worked-untouched text t = record { long = refl; held = held-not; words = λ n p q. refl; sentences = λ n p q. refl }
 
 -- the stages
 module _ (text t : List ℕ) {v : Verdict} (e : v ≡ wordsVerdict text) where
-  pub ruled-words : {n : ℕ} {p : TextPlace} → v ≡ Refused n p → ruledAs text t (ruling.Fault n (p .at)) ≡ ruled text
+  pub ruled-words : {n : ℕ} {p : TextPlace} → v ≡ Refused n p → ruledAs text t (ruling.Refused n (p .at)) ≡ ruled text
   unfolding ruled
   ruled-words f = rw (sym e ∙ f)
 
   module _ (f : v ≡ Accepted) {w : Verdict} (g : w ≡ sentenceVerdict text) where
-    pub ruled-sentences : {n : ℕ} {p : TextPlace} → w ≡ Refused n p → ruledAs text t (ruling.Fault n (p .at)) ≡ ruled text
+    pub ruled-sentences : {n : ℕ} {p : TextPlace} → w ≡ Refused n p → ruledAs text t (ruling.Refused n (p .at)) ≡ ruled text
     unfolding ruled sentenceVerdict answerOf
     ruled-sentences {n} {p} h = rw (sym e ∙ f) (by (fileAt text) (sym g ∙ h))
       where
@@ -124,15 +123,15 @@ module _ (text t : List ℕ) (r : Ruling) {v : Verdict} (e : ruledAs text t r �
   verdict-so = f ∙ by r ∙ ap judgedVerdict e
     where
       by : (r : Ruling) → verdictOf r ≡ judgedVerdict (ruledAs text t r)
-      by (ruling.Fault n p) = refl
-      by (ruling.Map row closed) = refl
+      by (ruling.Refused n p) = refl
+      by (ruling.Accepted row closed) = refl
 
   numbers-so : verdictNumbers v ≡ judgedNumbers (ruled text)
   numbers-so = ap verdictNumbers f ∙ by r ∙ ap judgedNumbers e
     where
       by : (r : Ruling) → verdictNumbers (verdictOf r) ≡ judgedNumbers (ruledAs text t r)
-      by (ruling.Fault n p) = refl
-      by (ruling.Map row closed) = refl
+      by (ruling.Refused n p) = refl
+      by (ruling.Accepted row closed) = refl
 
   pub verdict-ruled : (v ≡ rulesVerdict text) × (verdictNumbers v ≡ judgedNumbers (ruled text))
   verdict-ruled = (verdict-so, numbers-so)

@@ -1,11 +1,11 @@
 -- Statements: instances of a type that is visible, and property settings.
 use mathlib.Core.Path.{_≡_, refl, sym, ap, _∙_, subst}
 use mathlib.Core.Bool.{Bool, true, false}
-use mathlib.Core.List.{List, [], _∷_, _++_}
-use Prim.Native.Nat.{ℕ, zero, suc, _+_, _*_, _<_, _≤_}
+use mathlib.Core.List.{List, _++_}
+use Prim.Native.Nat.{ℕ, suc, _*_, _<_, _≤_}
 use native.Mathlib.Omega.{arith}
 use lib.ListN.{length}
-use Rattle.chars.specs.Choice.{if_then_else_}
+use Rattle.basics.specs.Limits.{definitionLimit}
 use Rattle.parts.specs.Reading.{Parsed, ok, stop, andThen, mapped}
 use Rattle.parts.specs.Parts.{nameAt, propertyAt, startsInstances}
 use Rattle.parts.specs.Answers.{nameRead}
@@ -13,45 +13,43 @@ use Rattle.parts.specs.declared.Kind.{Kind}
 use Rattle.parts.specs.declared.Name.{Name}
 use Rattle.parts.specs.declared.NameReading.{NameReading}
 use Rattle.parts.specs.declared.NameReading.the-variants as reading
-use Rattle.parts.specs.declared.Instance.{Instance}
-use Rattle.parts.specs.declared.Property.{Property as Statement}
-use Rattle.parts.proofs.Ends.{Ends, ends-of, name-ends, property-ends}
-use Rattle.syntax.specs.Tree.{Elem, definition, instances, property}
+use Rattle.parts.specs.declared.Assignment.{Assignment}
+use Rattle.parts.proofs.Ends.{ends-of, name-ends, property-ends}
+use Rattle.syntax.specs.Tree.{Elem, instances, property}
 use Rattle.syntax.specs.Grammar.{instancesAt, instanceStatementAt, statementAt}
-use Rattle.syntax.proofs.Derive.{Steps as Two, then-steps, Piece, mapped-piece}
-use Rattle.properties.specs.Judged.{Judged, fault, fine, onward}
+use Rattle.syntax.proofs.Derive.{then-steps, mapped-piece}
+use Rattle.basics.specs.Judged.{Judged, fault, fine, onward}
 use Rattle.properties.specs.Properties.{judgeProperty}
-use Rattle.properties.specs.declared.Given.{Given}
-use Rattle.properties.specs.declared.Given.the-variants.{Nothing, Number}
+use Rattle.basics.specs.declared.Given.{Given}
+use Rattle.basics.specs.declared.Given.the-variants.{Nothing, Number}
 use Rattle.properties.specs.declared.Assigned.{Assigned}
 use Rattle.components.specs.Components.{kindOf}
-use Rattle.table.specs.Cells.{openAt, size, componentIn}
-use Rattle.table.specs.Definitions.{Child, Definition, definitionOf, Entry, lookup}
-use Rattle.table.specs.Decoded.{typesIn}
-use Rattle.table.specs.Relation.{Block, Holds, Chain}
-use Rattle.table.proofs.Laws.{chain-types, type-low}
-use Rattle.places.specs.Walks.{listedWalk, afterListing, assignedWalk, afterSetting, settingStep}
-use Rattle.places.specs.declared.Place.the-variants.{Inside}
-use Rattle.places.specs.declared.Walk.{Walk}
-use Rattle.places.specs.declared.Scope.{Scope}
-use Rattle.places.specs.declared.Step.{Step}
-use Rattle.places.specs.declared.Step.the-variants as step
-use Rattle.places.specs.declared.Listing.{Listing}
-use Rattle.places.specs.declared.Listing.the-variants as listing
-use Rattle.rules.specs.Judge.{State, withHeld, withAssigned, judgeInstances, judgeUse, judgeSetting, judgeElem}
-use Rattle.rules.specs.Standing.{Fits, Kept, Sounds, Standing, Matches, matches-fault, matches-on, Moved, Moves, moves-fault, moves-on, Steps, Listed, Typed, ListMatches, list-fault, list-done, ListMoves, list-stops, list-moves, Lists, Usable, Uses}
+use Rattle.cells.specs.Cells.{componentIn}
+use Rattle.cells.specs.Definitions.{Child, definitionOf, VisibleType, lookup}
+use Rattle.cells.specs.Decoded.{typesIn}
+use Rattle.cells.specs.Relation.{Chain}
+use Rattle.cells.proofs.Laws.{chain-types, type-low}
+use Rattle.scopes.specs.Walks.{listedWalk, afterListing, assignedWalk, afterSetting, settingStep}
+use Rattle.scopes.specs.declared.Enclosing.the-variants.{Inside}
+use Rattle.scopes.specs.declared.Progress.{Progress}
+use Rattle.scopes.specs.declared.Scope.{Scope}
+use Rattle.scopes.specs.declared.Progressed.{Progressed}
+use Rattle.scopes.specs.declared.Progressed.the-variants as progressed
+use Rattle.scopes.specs.declared.ListJudged.{ListJudged}
+use Rattle.rules.specs.Judge.{State, withHeld, withAssigned, judgeUse, judgeSetting, judgeElem}
+use Rattle.rules.specs.Standing.{FitsText, Kept, Standing, Matches, matches-fault, matches-on, Moved, Moves, moves-fault, moves-on, Steps, HeldList, Typed, ListMatches, list-fault, list-done, ListMoves, list-stops, list-moves, Lists, TypeUsable, Uses}
 use Rattle.rules.proofs.Frames.{kept-same, holds-kept, chain-kept, chain-join}
 
 never : {X A : Type 0} {n p m : ℕ} {a : A} → stop n p ≡ ok a m → X
 never e = absurd (let z : _≡_ {A = ℕ} 0 1 = cc in omega arith)
 
 -- the instances of a body, where it stands
-pub standing-listed : {text t : List ℕ} {scope : Scope} {w : Walk} {s : State} → Standing text t scope w s → Listed text t (scope .first) (s .known .table) (w .held) (s .held)
+pub standing-listed : {text t : List ℕ} {scope : Scope} {w : Progress} {s : State} → Standing text t scope w s → HeldList text t (scope .first) (s .known .table) (w .held) (s .held)
 standing-listed st = record { long = st .long; block = st .held; count = st .count; sound = st .sound }
 
 -- what is known behind a list of instances
-pub standing-held : {text t u : List ℕ} {scope : Scope} {w : Walk} {s : State} {h : ℕ} {held n : ℕ} {cs : List Child} → Standing text t scope w s → w .head ≤ w .closed → Kept t u (w .closed) (w .filed) h
-    → Listed text u (scope .first) (s .known .table) held cs → Standing text u scope (listedWalk w held n) (withHeld s cs)
+pub standing-held : {text t u : List ℕ} {scope : Scope} {w : Progress} {s : State} {h : ℕ} {held n : ℕ} {cs : List Child} → Standing text t scope w s → w .head ≤ w .closed → Kept t u (w .closed) (w .filed) h
+    → HeldList text u (scope .first) (s .known .table) held cs → Standing text u scope (listedWalk w held n) (withHeld s cs)
 standing-held st l k c =
     record {
       long = c .long;
@@ -65,7 +63,7 @@ standing-held st l k c =
       sound = c .sound;
     }
 
-pub listing-moves : {long : ℕ} {scope : Scope} {w : Walk} {start : ℕ} {l : Listing} → Fits long scope w → w .at ≤ start → ListMoves long start (w .held) l → Moves long scope w (afterListing w l)
+pub listing-moves : {long : ℕ} {scope : Scope} {w : Progress} {start : ℕ} {l : ListJudged} → FitsText long scope w → w .at ≤ start → ListMoves long start (w .held) l → Moves long scope w (afterListing w l)
 listing-moves f p list-stops = moves-fault
 listing-moves {long} {scope} {w} {start} f p (list-moves {held = held} {at = at} x y z) =
     moves-on {v = listedWalk w held at}
@@ -89,24 +87,24 @@ listing-moves {long} {scope} {w} {start} f p (list-moves {held = held} {at = at}
     })
 
 -- a list of instances, as a step
-pub listing-matches : {text t u : List ℕ} {scope : Scope} {w : Walk} {s : State} {n h : ℕ} {j : Judged (List Child)} {l : Listing} → Standing text t scope w s → w .head ≤ w .closed → Kept t u (w .closed) (w .filed) h
+pub listing-matches : {text t u : List ℕ} {scope : Scope} {w : Progress} {s : State} {n h : ℕ} {j : Judged (List Child)} {l : ListJudged} → Standing text t scope w s → w .head ≤ w .closed → Kept t u (w .closed) (w .filed) h
     → ListMatches text u (scope .first) n (s .known .table) j l → Matches text u scope n (onward j (λ held. fine (withHeld s held))) (afterListing w l)
 unfolding onward
 listing-matches st l k list-fault = matches-fault
 listing-matches {n = n} st l k (list-done {cs = cs} {held = held} c) = matches-on refl (standing-held {n = n} st l k c)
 
-module _ (text t : List ℕ) (scope : Scope) (w : Walk) (name : Name) (next : ℕ) {meaning : Given} (a : Usable (length text) scope w next meaning) where
-  pub uses-low : {d : ℕ} → meaning ≡ Number d → d < 256
+module _ (text t : List ℕ) (scope : Scope) (w : Progress) (name : Name) (next : ℕ) {meaning : Given} (a : TypeUsable (length text) scope w next meaning) where
+  pub uses-low : {d : ℕ} → meaning ≡ Number d → d < definitionLimit
   uses-low {d} e = let f = a .fits in omega (arith, a .low d e, f .closed, f .opened)
 
   pub uses-room : 2 * w .held ≤ next
   uses-room = omega (arith, a .fits .room, a .past)
 
-  pub uses-nothing : meaning ≡ Nothing → Uses text t t scope w name next meaning (step.Fault 5 (name .start))
+  pub uses-nothing : meaning ≡ Nothing → Uses text t t scope w name next meaning (progressed.Refused 5 (name .start))
   unfolding judgeUse
   uses-nothing e = record { kept = kept-same; moves = moves-fault; each = λ is n s q st. rw e matches-fault }
 
-  pub uses-listing : {u : List ℕ} {d : ℕ} {kind : Kind} {l : Listing} {r : Step} → meaning ≡ Number d → kind ≡ kindOf (componentIn t d) → Lists text t u scope d kind next (w .held) l → r ≡ afterListing w l
+  pub uses-listing : {u : List ℕ} {d : ℕ} {kind : Kind} {l : ListJudged} {r : Progressed} → meaning ≡ Number d → kind ≡ kindOf (componentIn t d) → Lists text t u scope d kind next (w .held) l → r ≡ afterListing w l
       → Uses text t u scope w name next meaning r
   unfolding judgeUse
   uses-listing {u} {d} {kind} {l} e k x y =
@@ -122,10 +120,10 @@ module _ (text t : List ℕ) (scope : Scope) (w : Walk) (name : Name) (next : �
             rw (e, c, y) (listing-matches st (f .head) kept (x .each is n (s .known .table) (s .held) q typed (standing-listed st)));
       }
 
-module _ (text t : List ℕ) (scope : Scope) (w : Walk) where
+module _ (text t : List ℕ) (scope : Scope) (w : Progress) where
   -- an instance statement
   module _ {x : NameReading} (e : nameRead x ≡ nameAt text (w .at)) where
-    pub use-stop : {p : ℕ} → x ≡ reading.Stop p → Steps text t t scope w (λ e n. instanceStatementAt text (w .at) ≡ ok e n) (step.Fault 3 p)
+    pub use-stop : {p : ℕ} → x ≡ reading.Refused p → Steps text t t scope w (λ e n. instanceStatementAt text (w .at) ≡ ok e n) (progressed.Refused 3 p)
     unfolding instanceStatementAt
     use-stop {p} f =
         record {
@@ -138,28 +136,28 @@ module _ (text t : List ℕ) (scope : Scope) (w : Walk) where
       named : ok name next ≡ nameAt text (w .at)
       named = rw f at e
 
-      pub use-usable : {meaning : Given} → Fits (length text) scope w → meaning ≡ lookup text name (typesIn t 0 (w .head)) → Usable (length text) scope w next meaning
+      pub use-usable : {meaning : Given} → FitsText (length text) scope w → meaning ≡ lookup text name (typesIn t 0 (w .head)) → TypeUsable (length text) scope w next meaning
       use-usable g h =
           let b = ends-of (name-ends text (w .at)) (sym named) in
           record { fits = g; past = omega arith; low = λ d q. omega (arith, type-low (w .head) text t 0 (w .head) name (sym h ∙ q), g .head) }
 
-      pub use-steps : {u : List ℕ} {meaning : Given} {r : Step} → meaning ≡ lookup text name (typesIn t 0 (w .head)) → Uses text t u scope w name next meaning r
+      pub use-steps : {u : List ℕ} {meaning : Given} {r : Progressed} → meaning ≡ lookup text name (typesIn t 0 (w .head)) → Uses text t u scope w name next meaning r
           → Steps text t u scope w (λ e n. instanceStatementAt text (w .at) ≡ ok e n) r
       unfolding instanceStatementAt andThen judgeElem
       use-steps {u} {meaning} {r} h v = record { kept = v .kept; moves = v .moves; each = each }
         where
-          each : (e : Elem) (n : ℕ) (env : List Entry) (s : State) → instanceStatementAt text (w .at) ≡ ok e n → Standing text t scope w s → Chain t 0 (scope .base) env
-              → Matches text u scope n (judgeElem e text (scope .place) env (scope .defaults) s) r
+          each : (e : Elem) (n : ℕ) (env : List VisibleType) (s : State) → instanceStatementAt text (w .at) ≡ ok e n → Standing text t scope w s → Chain t 0 (scope .base) env
+              → Matches text u scope n (judgeElem e text (scope .enclosing) env (scope .defaults) s) r
           each e n env s q st c =
               let o : mapped (instances name) (instancesAt text next) ≡ ok e n = rw (sym named) at q in
               let p = mapped-piece (instances name) (instancesAt text next) o in
               let m : meaning ≡ lookup text name (s .known .here ++ env) = h ∙ ap (lookup text name) (chain-types (w .head) (omega arith) (chain-join (st .types) c)) in
-              let k : Matches text u scope n (judgeUse text (scope .place) name (p .piece) s (lookup text name (s .known .here ++ env))) r =
-              subst (λ (g : Given). Matches text u scope n (judgeUse text (scope .place) name (p .piece) s g) r) m (v .each (p .piece) n s (p .read) st) in
+              let k : Matches text u scope n (judgeUse text (scope .enclosing) name (p .piece) s (lookup text name (s .known .here ++ env))) r =
+              subst (λ (g : Given). Matches text u scope n (judgeUse text (scope .enclosing) name (p .piece) s g) r) m (v .each (p .piece) n s (p .read) st) in
               rw (← p .made) k
 
   -- a property statement
-  pub setting-steps : {kind : Kind} {r : Step} → Fits (length text) scope w → scope .place ≡ Inside kind → r ≡ settingStep text kind w (propertyAt text (w .at))
+  pub setting-steps : {kind : Kind} {r : Progressed} → FitsText (length text) scope w → scope .enclosing ≡ Inside kind → r ≡ settingStep text kind w (propertyAt text (w .at))
       → Steps text t t scope w (λ e n. mapped property (propertyAt text (w .at)) ≡ ok e n) r
   unfolding mapped judgeElem judgeSetting onward
   setting-steps {kind} {r} g i y = rw y (read (propertyAt text (w .at)) refl)
@@ -199,7 +197,7 @@ module _ (text t : List ℕ) (scope : Scope) (w : Walk) where
             sound = st .sound;
           }
 
-      judged : (p : Statement) (n : ℕ) → suc (w .at) ≤ n → n ≤ length text → (j : Judged Assigned) → judgeProperty text kind (w .assigned) p ≡ j
+      judged : (p : Assignment) (n : ℕ) → suc (w .at) ≤ n → n ≤ length text → (j : Judged Assigned) → judgeProperty text kind (w .assigned) p ≡ j
           → Steps text t t scope w (λ e m. ok (property p) n ≡ ok e m) (afterSetting w n j)
       judged p n a b (fault m′ q) z =
           record {
@@ -207,7 +205,7 @@ module _ (text t : List ℕ) (scope : Scope) (w : Walk) where
             moves = moves-fault;
             each = λ e m env s o st c.
                 let x : property p ≡ e = cc in
-                let k : judgeElem (property p) text (scope .place) env (scope .defaults) s ≡ fault m′ q = rw (i, ← st .assigned, z) in
+                let k : judgeElem (property p) text (scope .enclosing) env (scope .defaults) s ≡ fault m′ q = rw (i, ← st .assigned, z) in
                 rw (← x, k) matches-fault;
           }
       judged p n a b (fine x) z =
@@ -217,21 +215,21 @@ module _ (text t : List ℕ) (scope : Scope) (w : Walk) where
             each = λ e m env s o st c.
                 let y : property p ≡ e = cc in
                 let k : n ≡ m = cc in
-                let l : judgeElem (property p) text (scope .place) env (scope .defaults) s ≡ fine (withAssigned s x) = rw (i, ← st .assigned, z) in
+                let l : judgeElem (property p) text (scope .enclosing) env (scope .defaults) s ≡ fine (withAssigned s x) = rw (i, ← st .assigned, z) in
                 rw (← y, l) (matches-on {w = assignedWalk w n x} k (standing n x st));
           }
 
-      read : (x : Parsed Statement) → propertyAt text (w .at) ≡ x → Steps text t t scope w (λ e n. mapped property x ≡ ok e n) (settingStep text kind w x)
+      read : (x : Parsed Assignment) → propertyAt text (w .at) ≡ x → Steps text t t scope w (λ e n. mapped property x ≡ ok e n) (settingStep text kind w x)
       read (stop m q) z = record { kept = kept-same; moves = moves-fault; each = λ e n env s o st c. never o }
       read (ok p n) z = let b = ends-of (property-ends text (w .at)) z in judged p n (b .0) (b .1) (judgeProperty text kind (w .assigned) p) refl
 
   -- a statement is an instance statement or a property statement
-  pub statement-use : {u : List ℕ} {r : Step} {b : Bool} → b ≡ startsInstances text (w .at) → b ≡ true → Steps text t u scope w (λ e n. instanceStatementAt text (w .at) ≡ ok e n) r
+  pub statement-use : {u : List ℕ} {r : Progressed} {b : Bool} → b ≡ startsInstances text (w .at) → b ≡ true → Steps text t u scope w (λ e n. instanceStatementAt text (w .at) ≡ ok e n) r
       → Steps text t u scope w (λ e n. statementAt text (w .at) ≡ ok e n) r
   unfolding statementAt
   statement-use e f v = record { kept = v .kept; moves = v .moves; each = λ x n env s q st c. v .each x n env s (rw (sym e ∙ f) at q) st c }
 
-  pub statement-set : {u : List ℕ} {r : Step} {b : Bool} → b ≡ startsInstances text (w .at) → b ≡ false → Steps text t u scope w (λ e n. mapped property (propertyAt text (w .at)) ≡ ok e n) r
+  pub statement-set : {u : List ℕ} {r : Progressed} {b : Bool} → b ≡ startsInstances text (w .at) → b ≡ false → Steps text t u scope w (λ e n. mapped property (propertyAt text (w .at)) ≡ ok e n) r
       → Steps text t u scope w (λ e n. statementAt text (w .at) ≡ ok e n) r
   unfolding statementAt
   statement-set e f v = record { kept = v .kept; moves = v .moves; each = λ x n env s q st c. v .each x n env s (rw (sym e ∙ f) at q) st c }

@@ -20,38 +20,40 @@ use Rattle.parts.specs.Words.{isName, kindOf, isKind, isDefault, isProperty, is
 use Rattle.parts.specs.Parts.{closedBy, nameAt, arrayRestAt, arrayAt, suffixAt, setSuffix, withSuffix, bareAt, instanceAt, partedAt, listedAt, valueAt, settingAt, propertyWordAt, propertyAt, headerRestAt, headerAt, startsInstances}
 use Rattle.syntax.specs.Tree.{Body}
 use Rattle.syntax.specs.Grammar.{instancesFrom, instancesAt, instanceStatementAt, statementAt, tailAt, elementAt, elementsAt, definitionWith, definitionAt, definitionsFrom, fileAt}
-use Rattle.settings.specs.Settings.{isAllowed, isWidth, isPowerTo, settingAs, settingOf, refusalIn}
+use Rattle.fields.specs.Codes.{isWidth}
+use Rattle.property_values.specs.Settings.{isAllowed, isPowerTo, settingAs, settingOf, refusalIn}
 use Rattle.suffixes.specs.Suffixes.{ranged, settledFault, isSize, isRange, suffixRange, isBarred, instanceFault}
-use Rattle.names.specs.Names.{bytesOf, sameName, isAmong}
-use Rattle.properties.specs.Judged.{Judged, fault, fine, onward, unless}
+use Rattle.identifiers.specs.Names.{bytesOf, sameName, isAmong}
+use Rattle.basics.specs.Judged.{Judged, fault, fine, onward, unless}
 use Rattle.properties.specs.Assigned.{assign, nearest, assigned}
 use Rattle.properties.specs.Properties.{judgeValue, judgeKnown, judgeProperty}
 use Rattle.components.specs.Components.{componentOf}
-use Rattle.components.specs.Fields.{isReadable, isWritable, hasUnusableEffect, fieldAt, isResetWide, isOutside, isReadWritePair, isOverlap, spansParts, breaks}
-use Rattle.table.specs.Definitions.{lookup}
-use Rattle.closing.specs.Registers.{fieldsFrom, some, overlaps, registerFault, closingFault}
-use Rattle.places.specs.Places.{mayDefine, mayHold, isBadMap}
+use Rattle.fields.specs.Fields.{isReadable, isWritable, hasUnusableEffect, isResetWide, isOutside, isReadWritePair, isOverlap, spansParts, breaks}
+use Rattle.components.specs.Fields.{fieldAt}
+use Rattle.cells.specs.Definitions.{lookup}
+use Rattle.closing_rules.specs.Registers.{fieldsFrom, some, overlaps, registerFault, closingFault}
+use Rattle.scopes.specs.Places.{mayDefine, mayHold, isBadMap}
 use Rattle.rules.specs.Judge.{judgeInstances, judgeUse, judgeSetting, closed, declared, judgeDefinition, Meaning, judgeElem, judgeBody, judgeFile, judge}
 
 -- the first fault of a text by these rules, or none; and a text that the grammar refuses
-pub data Answer : Type 0 where
-  refused : ℕ → ℕ → Answer
-  accepted : Answer
-  unread : Answer
+pub data Outcome : Type 0 where
+  refused : ℕ → ℕ → Outcome
+  accepted : Outcome
+  unread : Outcome
 
-abbrev answerOf : Judged Meaning → Answer
+abbrev answerOf : Judged Meaning → Outcome
 answerOf (fault n p) = refused n p
 answerOf (fine c) = accepted
 
-abbrev answer : List ℕ → Parsed Body → Answer
+abbrev answer : List ℕ → Parsed Body → Outcome
 answer text (ok b n) = answerOf (judge text b)
 answer text (stop n p) = unread
 
 pub record Case : Type 0 where
   pub text : String
-  pub due : Answer
+  pub due : Outcome
 
-abbrev case : String → Answer → Case
+abbrev case : String → Outcome → Case
 case t a = record { text = t; due = a }
 
 pub cases : List Case

@@ -4,40 +4,38 @@ use mathlib.Core.List.{List, [], _∷_, _++_, map}
 use Prim.Native.Nat.{ℕ, _+_, _-_}
 use lib.Dec.{eqb, leb, ltb}
 use lib.ListN.{length}
-use Rattle.chars.specs.Choice.{if_then_else_}
+use Rattle.basics.specs.Choice.{if_then_else_}
 use Rattle.parts.specs.declared.Name.{Name}
 use Rattle.parts.specs.declared.Kind.{Kind}
-use Rattle.parts.specs.declared.Kind.the-variants as kind
 use Rattle.parts.specs.declared.Instance.{Instance}
 use Rattle.parts.specs.declared.Header.{Header}
 use Rattle.parts.specs.declared.DefinedName.{DefinedName}
 use Rattle.parts.specs.declared.DefinedName.the-variants.{Unnamed, Named}
-use Rattle.parts.specs.declared.Property.{Property as Statement}
+use Rattle.parts.specs.declared.Assignment.{Assignment}
 use Rattle.suffixes.specs.Suffixes.{instanceFault}
-use Rattle.suffixes.specs.declared.Fault.{Fault}
-use Rattle.suffixes.specs.declared.Fault.the-variants.{Sound, Broken}
 use Rattle.syntax.specs.Tree.{Elem, definition, instances, property, Body, close, more}
-use Rattle.names.specs.Names.{isAmong}
-use Rattle.properties.specs.Judged.{Judged, fault, fine, onward, unless}
-use Rattle.properties.specs.Assigned.{isGiven, nearest, noSettings, nothingAssigned}
+use Rattle.identifiers.specs.Names.{isAmong}
+use Rattle.basics.specs.Judged.{Judged, fault, fine, onward, unless, found}
+use Rattle.basics.specs.Given.{isGiven}
+use Rattle.properties.specs.Assigned.{nearest, noSettings, nothingAssigned}
 use Rattle.properties.specs.Properties.{judgeProperty}
-use Rattle.properties.specs.declared.Given.{Given}
-use Rattle.properties.specs.declared.Given.the-variants.{Nothing, Number}
+use Rattle.basics.specs.declared.Given.{Given}
+use Rattle.basics.specs.declared.Given.the-variants.{Nothing, Number}
 use Rattle.properties.specs.declared.Settings.{Settings}
 use Rattle.properties.specs.declared.Assigned.{Assigned}
 use Rattle.components.specs.Components.{componentOf, kindOf}
-use Rattle.table.specs.Cells.{rank}
-use Rattle.table.specs.Definitions.{Child, Definition, definitionOf, namesOf, Entry, lookup}
-use Rattle.rules.specs.Limits.{definitionLimit}
-use Rattle.closing.specs.Registers.{closingFault}
-use Rattle.places.specs.Places.{mayDefine, mayHold, isBadMap}
-use Rattle.places.specs.declared.Place.{Place}
-use Rattle.places.specs.declared.Place.the-variants.{Root, Inside}
+use Rattle.cells.specs.Cells.{rank}
+use Rattle.cells.specs.Definitions.{Child, Definition, definitionOf, namesOf, nameOr, VisibleType, lookup}
+use Rattle.basics.specs.Limits.{definitionLimit}
+use Rattle.closing_rules.specs.Registers.{closingFault}
+use Rattle.scopes.specs.Places.{mayDefine, mayHold, isBadMap}
+use Rattle.scopes.specs.declared.Enclosing.{Enclosing}
+use Rattle.scopes.specs.declared.Enclosing.the-variants.{Root, Inside}
 
 -- What is known of a text at a place: the types of this body, declared last first; the definitions that are closed; the address map,
 -- by its definition's number; and how many definitions were opened.
 pub record Known : Type 0 where
-  pub here : List Entry
+  pub here : List VisibleType
   pub table : List Definition
   pub map : Given
   pub opened : ℕ
@@ -61,13 +59,8 @@ withHeld s cs = record { assigned = s .assigned; held = cs; known = s .known }
 abbrev pub withKnown : State → Known → State
 withKnown s k = record { assigned = s .assigned; held = s .held; known = k }
 
--- a fault that was found, or what follows
-abbrev pub found : {A : Type 0} → Fault → Judged A → Judged A
-found Sound rest = rest
-found (Broken n p) rest = fault n p
-
 -- 6 and 10 at the name, then 9 and 11: instances of the definition `n`, of this kind, behind those that the body holds
-unfoldable pub judgeInstances : List ℕ → Place → Kind → ℕ → List Instance → List Child → Judged (List Child)
+unfoldable pub judgeInstances : List ℕ → Enclosing → Kind → ℕ → List Instance → List Child → Judged (List Child)
 judgeInstances text b k n [] held = fine held
 judgeInstances text b k n (i ∷ is) held =
     unless (isAmong text (i .name) (namesOf held)) 6 (i .name .start)
@@ -75,18 +68,18 @@ judgeInstances text b k n (i ∷ is) held =
     (found (instanceFault k i) (judgeInstances text b k n is (held ++ (record { instance = i; type = n } ∷ [])))))
 
 -- 5: an instance statement, by what its type's name means
-unfoldable pub judgeUse : List ℕ → Place → Name → List Instance → State → Given → Judged State
+unfoldable pub judgeUse : List ℕ → Enclosing → Name → List Instance → State → Given → Judged State
 judgeUse text b n is s Nothing = fault 5 (n .start)
 judgeUse text b n is s (Number d) =
     onward (judgeInstances text b (kindOf (definitionOf (s .known .table) d .component)) d is (s .held)) (λ held. fine (withHeld s held))
 
 -- 7, 8, 9: a property statement; the grammar has none at the root
-unfoldable pub judgeSetting : List ℕ → Place → State → Statement → Judged State
+unfoldable pub judgeSetting : List ℕ → Enclosing → State → Assignment → Judged State
 judgeSetting text Root s p = fault 7 (p .start)
 judgeSetting text (Inside k) s p = onward (judgeProperty text k (s .assigned) p) (λ a. fine (withAssigned s a))
 
 -- 6, of a type
-abbrev pub typeTwice : List ℕ → List Entry → DefinedName → Bool
+abbrev pub typeTwice : List ℕ → List VisibleType → DefinedName → Bool
 typeTwice text here Unnamed = false
 typeTwice text here (Named n) = isGiven (lookup text n here)
 
@@ -103,16 +96,16 @@ pub record Made : Type 0 where
 abbrev pub lastOf : List Definition → ℕ
 lastOf table = length table - 1
 
--- a body's end: its component has the effective values, "the nearest wins, an own setting beats it"
-unfoldable pub closed : Kind → Settings → State → ℕ → Judged Made
-closed k outer s p =
-    let c = componentOf k (nearest (s .assigned .own) outer) in
+-- the end of a definition's body: its component has the effective values, "the nearest wins, an own setting beats it"
+unfoldable pub closed : Header → Settings → State → ℕ → Judged Made
+closed h outer s p =
+    let c = componentOf (h .kind) (nearest (s .assigned .own) outer) in
     let table = s .known .table in
     let n = closingFault table c (s .held) in
-    unless (ltb 0 n) n p (fine (record { table = table ++ (record { component = c; instances = s .held } ∷ []); opened = s .known .opened }))
+    unless (ltb 0 n) n p (fine (record { table = table ++ (record { name = nameOr (h .name); component = c; instances = s .held } ∷ []); opened = s .known .opened }))
 
 -- "A type is visible after its closing brace"
-abbrev pub typesWith : DefinedName → ℕ → List Entry → List Entry
+abbrev pub typesWith : DefinedName → ℕ → List VisibleType → List VisibleType
 typesWith Unnamed d here = here
 typesWith (Named n) d here = record { name = n; row = d } ∷ here
 
@@ -129,7 +122,7 @@ declared s h m =
 
 -- 10 and 18 at the kind word, 6 at the name; then the body; then the instances. "A default reaches definitions opened later in its body
 -- and inside those": a body gets the defaults that stand before it, and those around.
-unfoldable pub judgeDefinition : List ℕ → Place → Settings → State → Header → List Instance → (Settings → State → Judged Made) → Judged State
+unfoldable pub judgeDefinition : List ℕ → Enclosing → Settings → State → Header → List Instance → (Settings → State → Judged Made) → Judged State
 judgeDefinition text b outer s h is body =
     unless (not (mayDefine b (h .kind)) || isBadMap (s .known .map) h) 10 (h .place)
     (unless (leb definitionLimit (s .known .opened)) 18 (h .place)
@@ -137,17 +130,17 @@ judgeDefinition text b outer s h is body =
     (onward (body (nearest (s .assigned .defaults) outer) (opening (s .known .table) (s .known .map) (s .known .opened + 1))) (λ m.
     onward (judgeInstances text b (h .kind) (lastOf (m .table)) is (s .held)) (λ held. fine (withHeld (declared s h m) held))))))
 
--- In a body, the types from outside are `env` and the defaults from outside `outer`.
+-- In a body, whose definition has the header `h`, the types from outside are `env` and the defaults from outside `outer`.
 unfoldable mutual
-  pub judgeElem : Elem → List ℕ → Place → List Entry → Settings → State → Judged State
+  pub judgeElem : Elem → List ℕ → Enclosing → List VisibleType → Settings → State → Judged State
   judgeElem (definition h b is) text place env outer s =
-      judgeDefinition text place outer s h is (λ defaults state. judgeBody b text (h .kind) (s .known .here ++ env) defaults state)
+      judgeDefinition text place outer s h is (λ defaults state. judgeBody b text h (s .known .here ++ env) defaults state)
   judgeElem (instances n is) text place env outer s = judgeUse text place n is s (lookup text n (s .known .here ++ env))
   judgeElem (property p) text place env outer s = judgeSetting text place s p
 
-  pub judgeBody : Body → List ℕ → Kind → List Entry → Settings → State → Judged Made
-  judgeBody (close p) text k env outer s = closed k outer s p
-  judgeBody (more e rest) text k env outer s = onward (judgeElem e text (Inside k) env outer s) (λ s′. judgeBody rest text k env outer s′)
+  pub judgeBody : Body → List ℕ → Header → List VisibleType → Settings → State → Judged Made
+  judgeBody (close p) text h env outer s = closed h outer s p
+  judgeBody (more e rest) text h env outer s = onward (judgeElem e text (Inside (h .kind)) env outer s) (λ s′. judgeBody rest text h env outer s′)
 
 -- what an accepted text means: its definitions, and the number of its address map
 pub record Meaning : Type 0 where

@@ -1,4 +1,3 @@
-pub mod Limits
 pub mod Judge
 pub mod Standing
 pub mod Rules

@@ -12,13 +12,14 @@ use Rattle.parts.specs.Parts.{instanceAt}
 use Rattle.parts.specs.declared.Instance.{Instance}
 use Rattle.syntax.specs.Tree.{Body}
 use Rattle.syntax.specs.Grammar.{fileAt}
-use Rattle.properties.specs.Judged.{Judged, fault, fine}
-use Rattle.table.specs.Cells.{cellOf, filedAt, filedRoom, componentIn, firstIn, countIn, placeIn, rowIn}
-use Rattle.table.specs.Definitions.{Child, Definition}
-use Rattle.table.specs.Relation.{Holds}
-use Rattle.places.specs.declared.Ruling.{Ruling}
-use Rattle.places.specs.declared.Ruling.the-variants as ruling
-use Rattle.rules.specs.Limits.{definitionLimit}
+use Rattle.basics.specs.Judged.{Judged, fault, fine}
+use Rattle.basics.specs.Slices.{cellOf}
+use Rattle.cells.specs.Cells.{filedAt, instanceRoom, componentIn, firstIn, countIn, nameIn, placeIn, rowIn}
+use Rattle.cells.specs.Definitions.{Child, Definition}
+use Rattle.cells.specs.Relation.{Holds}
+use Rattle.scopes.specs.declared.Ruling.{Ruling}
+use Rattle.scopes.specs.declared.Ruling.the-variants as ruling
+use Rattle.basics.specs.Limits.{definitionLimit}
 use Rattle.rules.specs.Judge.{Meaning, judge}
 
 -- "1; then words (2, 4); then 3 and 18 for bodies, whichever stands first; then 5 to 17 and 18 for definitions"
@@ -57,7 +58,7 @@ instancesIn text t i (suc count) = withInstance (rowIn (cellOf t i)) (instanceAt
 
 -- the definition of a row
 abbrev pub definitionIn : List ℕ → List ℕ → ℕ → Definition
-definitionIn text t r = record { component = componentIn t r; instances = instancesIn text t (filedAt + firstIn t r) (countIn t r) }
+definitionIn text t r = record { name = nameIn t r; component = componentIn t r; instances = instancesIn text t (filedAt + firstIn t r) (countIn t r) }
 
 -- the definitions of `count` rows from the row `r` on
 unfoldable pub definitionsIn : List ℕ → List ℕ → ℕ → ℕ → List Definition
@@ -66,16 +67,17 @@ definitionsIn text t r (suc count) = definitionIn text t r ∷ definitionsIn tex
 
 -- what an answer means, with the cells
 abbrev pub ruledAs : List ℕ → List ℕ → Ruling → Judged Meaning
-ruledAs text t (ruling.Fault n p) = fault n p
-ruledAs text t (ruling.Map row closed) = fine (record { table = definitionsIn text t 0 closed; map = row })
+ruledAs text t (ruling.Refused n p) = fault n p
+ruledAs text t (ruling.Accepted row closed) = fine (record { table = definitionsIn text t 0 closed; map = row })
 
 -- where a text is accepted, its cells hold its definitions
 pub data Held (text t : List ℕ) : Ruling → Type 0 where
-  held-not : {n p : ℕ} → Held text t (ruling.Fault n p)
-  held-all : {row closed : ℕ} → closed ≤ definitionLimit → Holds text t closed filedRoom (definitionsIn text t 0 closed) → Held text t (ruling.Map row closed)
+  held-not : {n p : ℕ} → Held text t (ruling.Refused n p)
+  held-all : {row closed : ℕ} → closed ≤ definitionLimit → Holds text t closed instanceRoom (definitionsIn text t 0 closed) → Held text t (ruling.Accepted row closed)
 
 -- What the cells hold after each answer: always as many; of an accepted text its definitions; of a text that words or sentences refuse
--- what they held before; of a text that 5 to 18 refuse what the walk had written so far, which nothing asks for.
+-- what they held before. What the walk wrote of a text that 5 to 18 refuse, and what stands in cells that the definitions of an accepted
+-- one don't use, nothing asks for.
 pub record Worked (text before after : List ℕ) (r : Ruling) : Type 0 where
   pub long : length after ≡ length before
   pub held : Held text after r

@@ -13,34 +13,34 @@ use Rattle.parts.specs.declared.Header.{Header}
 use Rattle.parts.specs.declared.Instance.{Instance}
 use Rattle.parts.specs.declared.DefinedName.{DefinedName}
 use Rattle.suffixes.specs.Suffixes.{instanceFault}
-use Rattle.suffixes.specs.declared.Fault.{Fault}
-use Rattle.suffixes.specs.declared.Fault.the-variants.{Sound, Broken}
+use Rattle.basics.specs.declared.Fault.{Fault}
+use Rattle.basics.specs.declared.Fault.the-variants.{None, Refused}
 use Rattle.syntax.specs.Tree.{Elem, Body}
 use Rattle.syntax.specs.Grammar.{instancesAt, tailAt, fileAt}
-use Rattle.names.specs.Names.{isAmong}
-use Rattle.properties.specs.Judged.{Judged, fault, fine, unless, onward}
-use Rattle.properties.specs.declared.Given.{Given}
-use Rattle.properties.specs.declared.Given.the-variants.{Number}
+use Rattle.identifiers.specs.Names.{isAmong}
+use Rattle.basics.specs.Judged.{Judged, fault, fine, unless, onward, found}
+use Rattle.basics.specs.declared.Given.{Given}
+use Rattle.basics.specs.declared.Given.the-variants.{Number}
 use Rattle.components.specs.Components.{kindOf}
-use Rattle.table.specs.Cells.{cellOf, filedAt, openAt, size, filedRoom, nameIn, belowIn}
-use Rattle.table.specs.Definitions.{Child, Definition, definitionOf, namesOf, Entry}
-use Rattle.table.specs.Relation.{Block, Holds, Chain}
-use Rattle.rules.specs.Limits.{definitionLimit}
-use Rattle.rules.specs.Judge.{State, Made, typeTwice, namePlace, found, lastOf, withHeld, closed, Meaning, judge, judgeUse, judgeInstances, judgeElem, judgeBody}
-use Rattle.places.specs.Places.{mayDefine, mayHold, isBadMap}
-use Rattle.places.specs.Walks.{nameOr}
-use Rattle.places.specs.declared.Ruling.{Ruling}
-use Rattle.places.specs.declared.Ruling.the-variants as ruling
-use Rattle.places.specs.declared.Walk.{Walk}
-use Rattle.places.specs.declared.Scope.{Scope}
-use Rattle.places.specs.declared.Step.{Step}
-use Rattle.places.specs.declared.Step.the-variants as step
-use Rattle.places.specs.declared.Listing.{Listing}
-use Rattle.places.specs.declared.Listing.the-variants as listing
+use Rattle.basics.specs.Slices.{cellOf}
+use Rattle.cells.specs.Cells.{filedAt, openAt, size, instanceRoom, nameIn, belowIn, definitionWidth}
+use Rattle.cells.specs.Definitions.{Child, Definition, definitionOf, namesOf, nameOr, VisibleType}
+use Rattle.cells.specs.Relation.{Block, Holds, Chain}
+use Rattle.basics.specs.Limits.{definitionLimit, textLimit}
+use Rattle.rules.specs.Judge.{State, Made, typeTwice, namePlace, lastOf, withHeld, closed, Meaning, judge, judgeUse, judgeInstances, judgeElem, judgeBody}
+use Rattle.scopes.specs.Places.{mayDefine, mayHold, isBadMap}
+use Rattle.scopes.specs.declared.Ruling.{Ruling}
+use Rattle.scopes.specs.declared.Ruling.the-variants as ruling
+use Rattle.scopes.specs.declared.Progress.{Progress}
+use Rattle.scopes.specs.declared.Scope.{Scope}
+use Rattle.scopes.specs.declared.Progressed.{Progressed}
+use Rattle.scopes.specs.declared.Progressed.the-variants as progressed
+use Rattle.scopes.specs.declared.ListJudged.{ListJudged}
+use Rattle.scopes.specs.declared.ListJudged.the-variants as listJudged
 
 -- The numbers that the code keeps fit: an instance takes two bytes at least, so the cells hold all of them.
-pub record Fits (long : ℕ) (scope : Scope) (w : Walk) : Type 0 where
-  pub short : long ≤ 65536
+pub record FitsText (long : ℕ) (scope : Scope) (w : Progress) : Type 0 where
+  pub short : long ≤ textLimit
   pub inside : w .at ≤ long
   pub room : 2 * (w .filed + w .held) ≤ w .at
   pub first : scope .first ≤ w .held
@@ -52,18 +52,18 @@ pub record Fits (long : ℕ) (scope : Scope) (w : Walk) : Type 0 where
 -- the cells of so many rows, of so many instances of closed definitions and of so many of open bodies are as before
 pub record Kept (t u : List ℕ) (n f h : ℕ) : Type 0 where
   pub long : length u ≡ length t
-  pub rows : (j : ℕ) → j < n * 16 → cellOf u j ≡ cellOf t j
+  pub rows : (j : ℕ) → j < n * definitionWidth → cellOf u j ≡ cellOf t j
   pub filed : (j : ℕ) → filedAt ≤ j → j < filedAt + f → cellOf u j ≡ cellOf t j
   pub opens : (j : ℕ) → openAt ≤ j → j < openAt + h → cellOf u j ≡ cellOf t j
 
 -- the types of instances are definitions, and their suffixes are sound
 pub data Sounds (table : List Definition) : List Child → Type 0 where
   sounds-end : Sounds table []
-  sounds-on : {c : Child} {cs : List Child} → c .type < length table → instanceFault (kindOf (definitionOf table (c .type) .component)) (c .instance) ≡ Sound
+  sounds-on : {c : Child} {cs : List Child} → c .type < length table → instanceFault (kindOf (definitionOf table (c .type) .component)) (c .instance) ≡ None
       → Sounds table cs → Sounds table (c ∷ cs)
 
 -- what the code knows at a place of a body, and the state that it stands for
-pub record Standing (text t : List ℕ) (scope : Scope) (w : Walk) (s : State) : Type 0 where
+pub record Standing (text t : List ℕ) (scope : Scope) (w : Progress) (s : State) : Type 0 where
   pub long : size ≤ length t
   pub assigned : w .assigned ≡ s .assigned
   pub map : w .map ≡ s .known .map
@@ -75,38 +75,38 @@ pub record Standing (text t : List ℕ) (scope : Scope) (w : Walk) (s : State) :
   pub sound : Sounds (s .known .table) (s .held)
 
 -- what an answer says of what is judged
-pub data Matches (text u : List ℕ) (scope : Scope) (n : ℕ) : Judged State → Step → Type 0 where
-  matches-fault : {number place : ℕ} → Matches text u scope n (fault number place) (step.Fault number place)
-  matches-on : {s : State} {w : Walk} → w .at ≡ n → Standing text u scope w s → Matches text u scope n (fine s) (step.On w)
+pub data Matches (text u : List ℕ) (scope : Scope) (n : ℕ) : Judged State → Progressed → Type 0 where
+  matches-fault : {number place : ℕ} → Matches text u scope n (fault number place) (progressed.Refused number place)
+  matches-on : {s : State} {w : Progress} → w .at ≡ n → Standing text u scope w s → Matches text u scope n (fine s) (progressed.Done w)
 
 -- how the numbers move over an element
-pub record Moved (long : ℕ) (scope : Scope) (w v : Walk) : Type 0 where
-  pub fits : Fits long scope v
+pub record Moved (long : ℕ) (scope : Scope) (w v : Progress) : Type 0 where
+  pub fits : FitsText long scope v
   pub past : w .at < v .at
   pub closed : w .closed ≤ v .closed
   pub filed : w .filed ≤ v .filed
   pub held : w .held ≤ v .held
   pub gap : v .closed + w .opened ≡ w .closed + v .opened
 
-pub data Moves (long : ℕ) (scope : Scope) (w : Walk) : Step → Type 0 where
-  moves-fault : {number place : ℕ} → Moves long scope w (step.Fault number place)
-  moves-on : {v : Walk} → Moved long scope w v → Moves long scope w (step.On v)
+pub data Moves (long : ℕ) (scope : Scope) (w : Progress) : Progressed → Type 0 where
+  moves-fault : {number place : ℕ} → Moves long scope w (progressed.Refused number place)
+  moves-on : {v : Progress} → Moved long scope w v → Moves long scope w (progressed.Done v)
 
 -- what a step over an element does: `reads` says what the element is
-pub record Steps (text t u : List ℕ) (scope : Scope) (w : Walk) (reads : Elem → ℕ → Type 0) (r : Step) : Type 0 where
+pub record Steps (text t u : List ℕ) (scope : Scope) (w : Progress) (reads : Elem → ℕ → Type 0) (r : Progressed) : Type 0 where
   pub kept : Kept t u (w .closed) (w .filed) (w .held)
   pub moves : Moves (length text) scope w r
-  pub each : (e : Elem) (n : ℕ) (env : List Entry) (s : State) → reads e n → Standing text t scope w s → Chain t 0 (scope .base) env
-      → Matches text u scope n (judgeElem e text (scope .place) env (scope .defaults) s) r
+  pub each : (e : Elem) (n : ℕ) (env : List VisibleType) (s : State) → reads e n → Standing text t scope w s → Chain t 0 (scope .base) env
+      → Matches text u scope n (judgeElem e text (scope .enclosing) env (scope .defaults) s) r
 
 -- what `instance_rules` answers, for all instances that stand before
 pub record InstanceRules (text t : List ℕ) (scope : Scope) (held : ℕ) (kind : Kind) (i : Instance) (answer : Fault) : Type 0 where
-  pub sound : answer ≡ Sound → instanceFault kind i ≡ Sound
+  pub sound : answer ≡ None → instanceFault kind i ≡ None
   pub each : (cs : List Child) → Block text t (openAt + scope .first) cs → held ≡ scope .first + length cs → (rest : Judged (List Child))
-      → found answer rest ≡ unless (isAmong text (i .name) (namesOf cs)) 6 (i .name .start) (unless (not (mayHold (scope .place) kind)) 10 (i .name .start) (found (instanceFault kind i) rest))
+      → found answer rest ≡ unless (isAmong text (i .name) (namesOf cs)) 6 (i .name .start) (unless (not (mayHold (scope .enclosing) kind)) 10 (i .name .start) (found (instanceFault kind i) rest))
 
 -- a body's instances, in the cells of open bodies
-pub record Listed (text t : List ℕ) (first : ℕ) (table : List Definition) (held : ℕ) (cs : List Child) : Type 0 where
+pub record HeldList (text t : List ℕ) (first : ℕ) (table : List Definition) (held : ℕ) (cs : List Child) : Type 0 where
   pub long : size ≤ length t
   pub block : Block text t (openAt + first) cs
   pub count : held ≡ first + length cs
@@ -119,45 +119,45 @@ pub record Typed (table : List Definition) (row : ℕ) (kind : Kind) : Type 0 wh
 
 -- what `add_instance` does
 pub data Added (text u : List ℕ) (scope : Scope) (row : ℕ) (kind : Kind) (held : ℕ) (i : Instance) (table : List Definition) (cs : List Child) : Fault → Type 0 where
-  added-not : {n p : ℕ} → ((is : List Instance) → judgeInstances text (scope .place) kind row (i ∷ is) cs ≡ fault n p) → Added text u scope row kind held i table cs (Broken n p)
-  added-one : {ds : List Child} → Listed text u (scope .first) table (suc held) ds
-      → ((is : List Instance) → judgeInstances text (scope .place) kind row (i ∷ is) cs ≡ judgeInstances text (scope .place) kind row is ds)
-      → Added text u scope row kind held i table cs Sound
+  added-not : {n p : ℕ} → ((is : List Instance) → judgeInstances text (scope .enclosing) kind row (i ∷ is) cs ≡ fault n p) → Added text u scope row kind held i table cs (Refused n p)
+  added-one : {ds : List Child} → HeldList text u (scope .first) table (suc held) ds
+      → ((is : List Instance) → judgeInstances text (scope .enclosing) kind row (i ∷ is) cs ≡ judgeInstances text (scope .enclosing) kind row is ds)
+      → Added text u scope row kind held i table cs None
 
 pub record Adds (text t u : List ℕ) (scope : Scope) (row : ℕ) (kind : Kind) (at held : ℕ) (i : Instance) (answer : Fault) : Type 0 where
-  pub kept : (n f : ℕ) → n ≤ 256 → f ≤ 32768 → Kept t u n f held
-  pub each : (m : ℕ) (table : List Definition) (cs : List Child) → instanceAt text at ≡ ok i m → Typed table row kind → Listed text t (scope .first) table held cs
+  pub kept : (n f : ℕ) → n ≤ definitionLimit → f ≤ instanceRoom → Kept t u n f held
+  pub each : (m : ℕ) (table : List Definition) (cs : List Child) → instanceAt text at ≡ ok i m → Typed table row kind → HeldList text t (scope .first) table held cs
       → Added text u scope row kind held i table cs answer
 
 -- a list of instances, behind those that a body holds
-pub data ListMatches (text u : List ℕ) (first n : ℕ) (table : List Definition) : Judged (List Child) → Listing → Type 0 where
-  list-fault : {number place : ℕ} → ListMatches text u first n table (fault number place) (listing.Fault number place)
-  list-done : {cs : List Child} {held : ℕ} → Listed text u first table held cs → ListMatches text u first n table (fine cs) (listing.Done held n)
+pub data ListMatches (text u : List ℕ) (first n : ℕ) (table : List Definition) : Judged (List Child) → ListJudged → Type 0 where
+  list-fault : {number place : ℕ} → ListMatches text u first n table (fault number place) (listJudged.Refused number place)
+  list-done : {cs : List Child} {held : ℕ} → HeldList text u first table held cs → ListMatches text u first n table (fine cs) (listJudged.Done held n)
 
-pub data ListMoves (long start before : ℕ) : Listing → Type 0 where
-  list-stops : {number place : ℕ} → ListMoves long start before (listing.Fault number place)
-  list-moves : {held at : ℕ} → before < held → at ≤ long → 2 * held + start ≤ 2 * before + at → ListMoves long start before (listing.Done held at)
+pub data ListMoves (long start before : ℕ) : ListJudged → Type 0 where
+  list-stops : {number place : ℕ} → ListMoves long start before (listJudged.Refused number place)
+  list-moves : {held at : ℕ} → before < held → at ≤ long → 2 * held + start ≤ 2 * before + at → ListMoves long start before (listJudged.Done held at)
 
-pub record Lists (text t u : List ℕ) (scope : Scope) (row : ℕ) (kind : Kind) (start before : ℕ) (r : Listing) : Type 0 where
-  pub kept : (n f : ℕ) → n ≤ 256 → f ≤ 32768 → Kept t u n f before
+pub record Lists (text t u : List ℕ) (scope : Scope) (row : ℕ) (kind : Kind) (start before : ℕ) (r : ListJudged) : Type 0 where
+  pub kept : (n f : ℕ) → n ≤ definitionLimit → f ≤ instanceRoom → Kept t u n f before
   pub moves : ListMoves (length text) start before r
   pub each : (is : List Instance) (n : ℕ) (table : List Definition) (cs : List Child) → instancesAt text start ≡ ok is n → Typed table row kind
-      → Listed text t (scope .first) table before cs → ListMatches text u (scope .first) n table (judgeInstances text (scope .place) kind row is cs) r
+      → HeldList text t (scope .first) table before cs → ListMatches text u (scope .first) n table (judgeInstances text (scope .enclosing) kind row is cs) r
 
 -- what `use_type` asks and does
-pub record Usable (long : ℕ) (scope : Scope) (w : Walk) (next : ℕ) (meaning : Given) : Type 0 where
-  pub fits : Fits long scope w
+pub record TypeUsable (long : ℕ) (scope : Scope) (w : Progress) (next : ℕ) (meaning : Given) : Type 0 where
+  pub fits : FitsText long scope w
   pub past : w .at < next
   pub low : (d : ℕ) → meaning ≡ Number d → d < w .closed
 
-pub record Uses (text t u : List ℕ) (scope : Scope) (w : Walk) (name : Name) (next : ℕ) (meaning : Given) (r : Step) : Type 0 where
+pub record Uses (text t u : List ℕ) (scope : Scope) (w : Progress) (name : Name) (next : ℕ) (meaning : Given) (r : Progressed) : Type 0 where
   pub kept : Kept t u (w .closed) (w .filed) (w .held)
   pub moves : Moves (length text) scope w r
   pub each : (is : List Instance) (n : ℕ) (s : State) → instancesAt text next ≡ ok is n → Standing text t scope w s
-      → Matches text u scope n (judgeUse text (scope .place) name is s meaning) r
+      → Matches text u scope n (judgeUse text (scope .enclosing) name is s meaning) r
 
 -- a body that is closed: its row is the last, with its name and the type declared before it
-pub record Closed (text u : List ℕ) (header : Header) (scope : Scope) (n : ℕ) (m : Made) (v : Walk) : Type 0 where
+pub record Closed (text u : List ℕ) (header : Header) (scope : Scope) (n : ℕ) (m : Made) (v : Progress) : Type 0 where
   pub at : v .at ≡ n
   pub long : size ≤ length u
   pub opened : v .opened ≡ m .opened
@@ -166,12 +166,12 @@ pub record Closed (text u : List ℕ) (header : Header) (scope : Scope) (n : ℕ
   pub below : (d : ℕ) → suc d ≡ v .closed → belowIn u d ≡ scope .base
   pub kind-of : (d : ℕ) → suc d ≡ v .closed → kindOf (definitionOf (m .table) d .component) ≡ header .kind
 
-pub data BodyMatches (text u : List ℕ) (header : Header) (scope : Scope) (n : ℕ) : Judged Made → Step → Type 0 where
-  body-fault : {number place : ℕ} → BodyMatches text u header scope n (fault number place) (step.Fault number place)
-  body-on : {m : Made} {v : Walk} → Closed text u header scope n m v → BodyMatches text u header scope n (fine m) (step.On v)
+pub data BodyMatches (text u : List ℕ) (header : Header) (scope : Scope) (n : ℕ) : Judged Made → Progressed → Type 0 where
+  body-fault : {number place : ℕ} → BodyMatches text u header scope n (fault number place) (progressed.Refused number place)
+  body-on : {m : Made} {v : Progress} → Closed text u header scope n m v → BodyMatches text u header scope n (fine m) (progressed.Done v)
 
 -- how the numbers move over a body
-pub record BodyMoved (long : ℕ) (scope : Scope) (w v : Walk) : Type 0 where
+pub record BodyMoved (long : ℕ) (scope : Scope) (w v : Progress) : Type 0 where
   pub inside : v .at ≤ long
   pub past : w .at < v .at
   pub room : 2 * (v .filed + v .held) ≤ v .at
@@ -181,44 +181,44 @@ pub record BodyMoved (long : ℕ) (scope : Scope) (w v : Walk) : Type 0 where
   pub gap : v .closed + w .opened ≡ suc (w .closed + v .opened)
   pub opened : v .opened ≤ definitionLimit
 
-pub data BodyMoves (long : ℕ) (scope : Scope) (w : Walk) : Step → Type 0 where
-  body-stops : {number place : ℕ} → BodyMoves long scope w (step.Fault number place)
-  body-moves : {v : Walk} → BodyMoved long scope w v → BodyMoves long scope w (step.On v)
+pub data BodyMoves (long : ℕ) (scope : Scope) (w : Progress) : Progressed → Type 0 where
+  body-stops : {number place : ℕ} → BodyMoves long scope w (progressed.Refused number place)
+  body-moves : {v : Progress} → BodyMoved long scope w v → BodyMoves long scope w (progressed.Done v)
 
 -- what `close_body` does
-pub record Closing (text t u : List ℕ) (header : Header) (scope : Scope) (w : Walk) (brace next : ℕ) (r : Step) : Type 0 where
+pub record Closing (text t u : List ℕ) (header : Header) (scope : Scope) (w : Progress) (brace next : ℕ) (r : Progressed) : Type 0 where
   pub kept : Kept t u (w .closed) (w .filed) (scope .first)
   pub moves : BodyMoves (length text) scope w r
-  pub each : (s : State) → Standing text t scope w s → BodyMatches text u header scope next (closed (header .kind) (scope .defaults) s brace) r
+  pub each : (s : State) → Standing text t scope w s → BodyMatches text u header scope next (closed header (scope .defaults) s brace) r
 
 -- what `header_fault` answers
-pub record HeaderFault (text t : List ℕ) (scope : Scope) (w : Walk) (h : Header) (answer : Fault) : Type 0 where
-  pub low : answer ≡ Sound → w .opened < definitionLimit
+pub record HeaderFault (text t : List ℕ) (scope : Scope) (w : Progress) (h : Header) (answer : Fault) : Type 0 where
+  pub low : answer ≡ None → w .opened < definitionLimit
   pub each : (s : State) → Standing text t scope w s → (rest : Judged State)
-      → found answer rest ≡ unless (not (mayDefine (scope .place) (h .kind)) || isBadMap (s .known .map) h) 10 (h .place)
+      → found answer rest ≡ unless (not (mayDefine (scope .enclosing) (h .kind)) || isBadMap (s .known .map) h) 10 (h .place)
       (unless (leb definitionLimit (s .known .opened)) 18 (h .place) (unless (typeTwice text (s .known .here) (h .name)) 6 (namePlace (h .name)) rest))
 
 pub record NameFault (text t : List ℕ) (base head : ℕ) (name : DefinedName) (answer : Fault) : Type 0 where
-  pub each : (here : List Entry) → Chain t base head here → (rest : Judged State) → found answer rest ≡ unless (typeTwice text here name) 6 (namePlace name) rest
+  pub each : (here : List VisibleType) → Chain t base head here → (rest : Judged State) → found answer rest ≡ unless (typeTwice text here name) 6 (namePlace name) rest
 
 -- what `judge_tail` does
-pub record Tails (text t u : List ℕ) (scope : Scope) (h : Header) (w : Walk) (r : Step) : Type 0 where
+pub record Tails (text t u : List ℕ) (scope : Scope) (h : Header) (w : Progress) (r : Progressed) : Type 0 where
   pub kept : Kept t u (w .closed) (w .filed) (w .held)
   pub moves : Moves (length text) scope w r
   pub each : (is : List Instance) (n : ℕ) (s : State) → tailAt (isNamed (h .name)) text (w .at) ≡ ok is n → Standing text t scope w s
       → Typed (s .known .table) (lastOf (s .known .table)) (h .kind)
-      → Matches text u scope n (onward (judgeInstances text (scope .place) (h .kind) (lastOf (s .known .table)) is (s .held)) (λ held. fine (withHeld s held))) r
+      → Matches text u scope n (onward (judgeInstances text (scope .enclosing) (h .kind) (lastOf (s .known .table)) is (s .held)) (λ held. fine (withHeld s held))) r
 
-pub record BodySteps (text t u : List ℕ) (header : Header) (scope : Scope) (w : Walk) (reads : Body → ℕ → Type 0) (r : Step) : Type 0 where
+pub record BodySteps (text t u : List ℕ) (header : Header) (scope : Scope) (w : Progress) (reads : Body → ℕ → Type 0) (r : Progressed) : Type 0 where
   pub kept : Kept t u (w .closed) (w .filed) (scope .first)
   pub moves : BodyMoves (length text) scope w r
-  pub each : (b : Body) (n : ℕ) (env : List Entry) (s : State) → reads b n → Standing text t scope w s → Chain t 0 (scope .base) env
-      → BodyMatches text u header scope n (judgeBody b text (header .kind) env (scope .defaults) s) r
+  pub each : (b : Body) (n : ℕ) (env : List VisibleType) (s : State) → reads b n → Standing text t scope w s → Chain t 0 (scope .base) env
+      → BodyMatches text u header scope n (judgeBody b text header env (scope .defaults) s) r
 
 -- what a file is judged as
 pub data FileMatches (text u : List ℕ) : Judged Meaning → Ruling → Type 0 where
-  file-fault : {number place : ℕ} → FileMatches text u (fault number place) (ruling.Fault number place)
-  file-map : {m : Meaning} {closed filed : ℕ} → Holds text u closed filed (m .table) → closed ≤ definitionLimit → filed ≤ filedRoom → FileMatches text u (fine m) (ruling.Map (m .map) closed)
+  file-fault : {number place : ℕ} → FileMatches text u (fault number place) (ruling.Refused number place)
+  file-map : {m : Meaning} {closed filed : ℕ} → Holds text u closed filed (m .table) → closed ≤ definitionLimit → filed ≤ instanceRoom → FileMatches text u (fine m) (ruling.Accepted (m .map) closed)
 
 pub record Rules (text t u : List ℕ) (r : Ruling) : Type 0 where
   pub long : length u ≡ length t

@@ -1,37 +1,34 @@
 // The rules stage: the first fault of a text by 5 to 17, and by 18 for definitions, or what its definitions mean. One walk over the
 // text, with a table of the definitions that are closed and of the instances; no tree is kept.
+use basics::Fault;
+use basics::Given;
 use lex::Verdict;
 use parts::DefinedName;
 use parts::Header;
 use parts::HeaderReading;
 use parts::Instance;
 use parts::Kind;
-use parts::ListedReading;
+use parts::ListItemReading;
 use parts::Name;
 use parts::NameReading;
-use places::Listing;
-use places::Place;
-use places::Ruling;
-use places::Scope;
-use places::Step;
-use places::Walk;
-use properties::Given;
-use suffixes::Fault;
+use scopes::Enclosing;
+use scopes::ListJudged;
+use scopes::Progress;
+use scopes::Progressed;
+use scopes::Ruling;
+use scopes::Scope;
 use vocabulary::Mark;
 ghost use mathlib.Core.Path.{_≡_};
 ghost use Prim.Native.Nat.{_+_, _*_, _<_, _≤_};
 ghost use lib.ListN.{length, set};
+ghost use Rattle.basics.specs.Limits.{textLimit, definitionLimit};
 ghost use Rattle.lex.specs.Words.{verdictNumbers};
 ghost use Rattle.parts.specs.Reading.{ok};
 ghost use Rattle.syntax.specs.Grammar.{instanceStatementAt, statementAt, definitionAt, bodyAt};
-ghost use Rattle.names.specs.Names.{fingerprint};
-ghost use Rattle.table.specs.Cells.{size, openAt, entryOf};
+ghost use Rattle.identifiers.specs.Names.{fingerprint};
+ghost use Rattle.cells.specs.Cells.{size, openAt, entryOf, instanceRoom, entryPlaces};
 ghost use Rattle.rules.specs.Rules.{ruled, rulesVerdict, judgedNumbers, ruledAs, Worked};
-ghost use Rattle.rules.specs.Standing.{Fits, Steps, InstanceRules, Adds, Lists, Usable, Uses, HeaderFault, NameFault, Closing, BodySteps, Tails, Rules};
-
-const BODY_LIMIT: usize = 8;
-
-const DEFINITION_LIMIT: usize = 256;
+ghost use Rattle.rules.specs.Standing.{FitsText, Steps, InstanceRules, Adds, Lists, TypeUsable, Uses, HeaderFault, NameFault, Closing, BodySteps, Tails, Rules};
 
 // The first fault of an instance: 6 and 10 at its name, then 9 and 11.
 fn instance_rules(
@@ -42,34 +39,34 @@ fn instance_rules(
     kind: Kind,
     instance: Instance,
 ) -> Fault
-    requires { ⌜ (scope .first ≤ held) × (held ≤ 32768) ⌝ }
+    requires { ⌜ (scope .first ≤ held) × (held ≤ instanceRoom) ⌝ }
     ensures { λ r. ⌜ InstanceRules (now (text .entry)) (now (cells .entry)) scope held kind instance r ⌝ }
 {
     let name = instance.name;
-    let place = scope.place;
-    if table::is_held(
+    let enclosing = scope.enclosing;
+    if cells::is_held(
         text,
         cells,
-        table::OPEN + scope.first,
-        table::OPEN + held,
+        cells::OPEN + scope.first,
+        cells::OPEN + held,
         name,
     ) {
-        return Fault::Broken(6, name.start);
+        return Fault::Refused(6, name.start);
     }
-    if !places::may_hold(place, kind) {
-        return Fault::Broken(10, name.start);
+    if !scopes::may_hold(enclosing, kind) {
+        return Fault::Refused(10, name.start);
     }
     suffixes::instance_fault(kind, instance)
 }
 
 // Writes an instance of the definition of a row behind those of the open bodies.
 fn hold(text: &[u8], cells: &mut [u64], held: usize, place: usize, row: usize, name: Name)
-    requires { ⌜ (held ≤ 32768) × (place < 131072) × (row < 256) ⌝ }
+    requires { ⌜ (held ≤ instanceRoom) × (place < entryPlaces) × (row < definitionLimit) ⌝ }
     ensures { λ _. ⌜ now (cells .exit) ≡ set (now (cells .entry)) (openAt + held) (entryOf place row (fingerprint (now (text .entry)) name)) ⌝ }
 {
-    let print = names::fingerprint_of(text, name);
-    let entry = table::entry_of(place, row as u64, print);
-    table::put(cells, table::OPEN + held, entry);
+    let print = identifiers::fingerprint_of(text, name);
+    let entry = cells::entry_of(place, row as u64, print);
+    basics::put(cells, cells::OPEN + held, entry);
 }
 
 // Judges an instance that stands at a place, and adds it to those of the open bodies if it is sound.
@@ -83,16 +80,16 @@ fn add_instance(
     held: usize,
     instance: Instance,
 ) -> Fault
-    requires { ⌜ (scope .first ≤ held) × (held < 32768) × (at < 131072) × (row < 256) ⌝ }
+    requires { ⌜ (scope .first ≤ held) × (held < instanceRoom) × (at < entryPlaces) × (row < definitionLimit) ⌝ }
     ensures { λ r. ⌜ Adds (now (text .entry)) (now (cells .entry)) (now (cells .exit)) scope row kind at held instance r ⌝ }
 {
     let fault = instance_rules(text, cells, scope, held, kind, instance);
     match fault {
-        Fault::Broken(number, place) => Fault::Broken(number, place),
-        Fault::Sound => {
+        Fault::Refused(number, place) => Fault::Refused(number, place),
+        Fault::None => {
             let name = instance.name;
             hold(text, cells, held, at, row, name);
-            Fault::Sound
+            Fault::None
         }
     }
 }
@@ -106,27 +103,27 @@ fn judge_instances(
     kind: Kind,
     start: usize,
     before: usize,
-) -> Listing
-    requires { ⌜ (length (now text) ≤ 65536) × (scope .first ≤ before) × (2 * before ≤ start) × (row < 256) ⌝ }
+) -> ListJudged
+    requires { ⌜ (length (now text) ≤ textLimit) × (scope .first ≤ before) × (2 * before ≤ start) × (row < definitionLimit) ⌝ }
     ensures { λ r. ⌜ Lists (now (text .entry)) (now (cells .entry)) (now (cells .exit)) scope row kind start before r ⌝ }
 {
     let mut at = start;
     let mut held = before;
     loop {
         match parts::read_listed(text, at) {
-            ListedReading::Stop(number, place) => {
-                return Listing::Fault(number, place);
+            ListItemReading::Refused(number, place) => {
+                return ListJudged::Refused(number, place);
             }
-            ListedReading::Done(listed, next) => {
+            ListItemReading::Done(listed, next) => {
                 let instance = listed.instance;
                 match add_instance(text, cells, scope, row, kind, at, held, instance) {
-                    Fault::Broken(number, place) => {
-                        return Listing::Fault(number, place);
+                    Fault::Refused(number, place) => {
+                        return ListJudged::Refused(number, place);
                     }
-                    Fault::Sound => {
+                    Fault::None => {
                         held += 1;
                         if listed.last {
-                            return Listing::Done(held, next);
+                            return ListJudged::Done(held, next);
                         }
                         at = next;
                     }
@@ -141,84 +138,90 @@ fn use_type(
     text: &[u8],
     cells: &mut [u64],
     scope: Scope,
-    walk: Walk,
+    walk: Progress,
     name: Name,
     next: usize,
     meaning: Given,
-) -> Step
-    requires { ⌜ Usable (length (now text)) scope walk next meaning ⌝ }
+) -> Progressed
+    requires { ⌜ TypeUsable (length (now text)) scope walk next meaning ⌝ }
     ensures { λ r. ⌜ Uses (now (text .entry)) (now (cells .entry)) (now (cells .exit)) scope walk name next meaning r ⌝ }
 {
     match meaning {
-        Given::Nothing => Step::Fault(5, name.start),
+        Given::Nothing => Progressed::Refused(5, name.start),
         Given::Number(number) => {
             let row = number as usize;
-            let kind = places::kind_at(cells, row);
+            let kind = scopes::kind_at(cells, row);
             let listing = judge_instances(text, cells, scope, row, kind, next, walk.held);
-            places::after_listing(walk, listing)
+            scopes::after_listing(walk, listing)
         }
     }
 }
 
 // An instance statement.
-fn judge_use(text: &[u8], cells: &mut [u64], scope: Scope, walk: Walk) -> Step
-    requires { ⌜ Fits (length (now text)) scope walk ⌝ }
+fn judge_use(text: &[u8], cells: &mut [u64], scope: Scope, walk: Progress) -> Progressed
+    requires { ⌜ FitsText (length (now text)) scope walk ⌝ }
     ensures { λ r. ⌜ Steps (now (text .entry)) (now (cells .entry)) (now (cells .exit)) scope walk (λ e n. instanceStatementAt (now (text .entry)) (walk .at) ≡ ok e n) r ⌝ }
 {
     match parts::read_name(text, walk.at) {
-        NameReading::Stop(place) => Step::Fault(3, place),
+        NameReading::Refused(place) => Progressed::Refused(3, place),
         NameReading::Done(name, next) => {
-            let meaning = table::find_type(text, cells, walk.head, 0, name);
+            let meaning = cells::find_type(text, cells, walk.head, 0, name);
             use_type(text, cells, scope, walk, name, next, meaning)
         }
     }
 }
 
 // A statement that opens no body, in a body of a component of this kind.
-fn judge_statement(text: &[u8], cells: &mut [u64], kind: Kind, scope: Scope, walk: Walk) -> Step
-    requires { ⌜ Fits (length (now text)) scope walk × (scope .place ≡ Place.Inside kind) ⌝ }
+fn judge_statement(
+    text: &[u8],
+    cells: &mut [u64],
+    kind: Kind,
+    scope: Scope,
+    walk: Progress,
+) -> Progressed
+    requires { ⌜ FitsText (length (now text)) scope walk × (scope .enclosing ≡ Enclosing.Inside kind) ⌝ }
     ensures { λ r. ⌜ Steps (now (text .entry)) (now (cells .entry)) (now (cells .exit)) scope walk (λ e n. statementAt (now (text .entry)) (walk .at) ≡ ok e n) r ⌝ }
 {
     if parts::starts_instances(text, walk.at) {
         return judge_use(text, cells, scope, walk);
     }
-    places::judge_setting(text, kind, walk)
+    scopes::judge_setting(text, kind, walk)
 }
 
 // 6 where a type of this name was declared in this body.
 fn name_fault(text: &[u8], cells: &[u64], base: usize, head: usize, name: DefinedName) -> Fault
-    requires { ⌜ head ≤ 256 ⌝ }
+    requires { ⌜ head ≤ definitionLimit ⌝ }
     ensures { λ r. ⌜ NameFault (now (text .entry)) (now (cells .entry)) base head name r ⌝ }
 {
     match name {
-        DefinedName::Unnamed => Fault::Sound,
+        DefinedName::Unnamed => Fault::None,
         DefinedName::Named(named) => {
-            let meaning = table::find_type(text, cells, head, base, named);
-            if properties::is_given(meaning) {
-                return Fault::Broken(6, named.start);
+            let meaning = cells::find_type(text, cells, head, base, named);
+            if basics::is_given(meaning) {
+                return Fault::Refused(6, named.start);
             }
-            Fault::Sound
+            Fault::None
         }
     }
 }
 
 // The fault of a definition before its body: 10 and 18 at the kind word, 6 at the name.
-fn header_fault(text: &[u8], cells: &[u64], scope: Scope, walk: Walk, header: Header) -> Fault
-    requires { ⌜ walk .head ≤ 256 ⌝ }
+fn header_fault(text: &[u8], cells: &[u64], scope: Scope, walk: Progress, header: Header) -> Fault
+    requires { ⌜ walk .head ≤ definitionLimit ⌝ }
     ensures { λ r. ⌜ HeaderFault (now (text .entry)) (now (cells .entry)) scope walk header r ⌝ }
 {
     let kind = header.kind;
     let name = header.name;
-    let place = scope.place;
+    let enclosing = scope.enclosing;
     let map = walk.map;
-    if !places::may_define(place, kind) {
-        return Fault::Broken(10, header.place);
+    if !scopes::may_define(enclosing, kind) {
+        return Fault::Refused(10, header.place);
     }
-    if places::is_bad_map(map, header) {
-        return Fault::Broken(10, header.place);
+    if scopes::is_bad_map(map, header) {
+        return Fault::Refused(10, header.place);
     }
-    if DEFINITION_LIMIT <= walk.opened {
-        return Fault::Broken(18, header.place);
+    if basics::DEFINITION_LIMIT <= walk.opened {
+        return Fault::Refused(18, header.place);
     }
     name_fault(text, cells, scope.base, walk.head, name)
 }
@@ -229,23 +232,23 @@ fn close_body(
     cells: &mut [u64],
     header: Header,
     scope: Scope,
-    walk: Walk,
+    walk: Progress,
     brace: usize,
     next: usize,
-) -> Step
-    requires { ⌜ Fits (length (now text)) scope walk × (walk .closed < walk .opened) × (walk .at < next) × (next ≤ length (now text)) ⌝ }
+) -> Progressed
+    requires { ⌜ FitsText (length (now text)) scope walk × (walk .closed < walk .opened) × (walk .at < next) × (next ≤ length (now text)) ⌝ }
     ensures { λ r. ⌜ Closing (now (text .entry)) (now (cells .entry)) (now (cells .exit)) header scope walk brace next r ⌝ }
 {
     let kind = header.kind;
-    let component = places::closing_component(kind, scope, walk);
-    let from = table::OPEN + scope.first;
-    let to = table::OPEN + walk.held;
-    let fault = closing::closing_fault(text, cells, from, to, component);
+    let component = scopes::closing_component(kind, scope, walk);
+    let from = cells::OPEN + scope.first;
+    let to = cells::OPEN + walk.held;
+    let fault = closing_rules::closing_fault(text, cells, from, to, component);
     if 0 < fault {
-        return Step::Fault(fault, brace);
+        return Progressed::Refused(fault, brace);
     }
-    places::file_definition(cells, header, scope, walk, component);
-    Step::On(places::closed_walk(scope, walk, next))
+    scopes::file_definition(cells, header, scope, walk, component);
+    Progressed::Done(scopes::closed_walk(scope, walk, next))
 }
 
 // The elements of a body up to its closing brace, where so many more bodies may be opened inside.
@@ -255,9 +258,9 @@ fn judge_body(
     bodies: usize,
     header: Header,
     scope: Scope,
-    start: Walk,
-) -> Step
-    requires { ⌜ Fits (length (now text)) scope start × (start .closed < start .opened) × (scope .place ≡ Place.Inside (header .kind)) ⌝ }
+    start: Progress,
+) -> Progressed
+    requires { ⌜ FitsText (length (now text)) scope start × (start .closed < start .opened) × (scope .enclosing ≡ Enclosing.Inside (header .kind)) ⌝ }
     ensures { λ r. ⌜ BodySteps (now (text .entry)) (now (cells .entry)) (now (cells .exit)) header scope start (λ b n. bodyAt bodies (now (text .entry)) (start .at) ≡ ok b n) r ⌝ }
 {
     let kind = header.kind;
@@ -270,19 +273,19 @@ fn judge_body(
         }
         if parts::is_kind(word) {
             match judge_definition(text, cells, bodies, scope, walk) {
-                Step::Fault(number, place) => {
-                    return Step::Fault(number, place);
+                Progressed::Refused(number, place) => {
+                    return Progressed::Refused(number, place);
                 }
-                Step::On(next) => {
+                Progressed::Done(next) => {
                     walk = next;
                 }
             }
         } else {
             match judge_statement(text, cells, kind, scope, walk) {
-                Step::Fault(number, place) => {
-                    return Step::Fault(number, place);
+                Progressed::Refused(number, place) => {
+                    return Progressed::Refused(number, place);
                 }
-                Step::On(next) => {
+                Progressed::Done(next) => {
                     walk = next;
                 }
             }
@@ -291,43 +294,55 @@ fn judge_body(
 }
 
 // The instances behind a definition's body, or none where it has a name; then a semicolon.
-fn judge_tail(text: &[u8], cells: &mut [u64], scope: Scope, header: Header, walk: Walk) -> Step
-    requires { ⌜ Fits (length (now text)) scope walk × (1 ≤ walk .closed) ⌝ }
+fn judge_tail(
+    text: &[u8],
+    cells: &mut [u64],
+    scope: Scope,
+    header: Header,
+    walk: Progress,
+) -> Progressed
+    requires { ⌜ FitsText (length (now text)) scope walk × (1 ≤ walk .closed) ⌝ }
     ensures { λ r. ⌜ Tails (now (text .entry)) (now (cells .entry)) (now (cells .exit)) scope header walk r ⌝ }
 {
     let kind = header.kind;
     let name = header.name;
     let token = lex::next_token(text, walk.at);
     let word = token.word;
-    if places::is_bare_tail(word, name) {
-        return places::after_listing(walk, Listing::Done(walk.held, token.end));
+    if scopes::is_bare_tail(word, name) {
+        return scopes::after_listing(walk, ListJudged::Done(walk.held, token.end));
     }
     let row = walk.closed - 1;
     let listing = judge_instances(text, cells, scope, row, kind, walk.at, walk.held);
-    places::after_listing(walk, listing)
+    scopes::after_listing(walk, listing)
 }
 
 // A definition, where so many bodies may still be opened.
-fn judge_definition(text: &[u8], cells: &mut [u64], bodies: usize, scope: Scope, walk: Walk) -> Step
-    requires { ⌜ Fits (length (now text)) scope walk ⌝ }
+fn judge_definition(
+    text: &[u8],
+    cells: &mut [u64],
+    bodies: usize,
+    scope: Scope,
+    walk: Progress,
+) -> Progressed
+    requires { ⌜ FitsText (length (now text)) scope walk ⌝ }
     ensures { λ r. ⌜ Steps (now (text .entry)) (now (cells .entry)) (now (cells .exit)) scope walk (λ e n. definitionAt bodies (now (text .entry)) (walk .at) ≡ ok e n) r ⌝ }
 {
     match parts::read_header(text, walk.at) {
-        HeaderReading::Stop(place) => Step::Fault(3, place),
+        HeaderReading::Refused(place) => Progressed::Refused(3, place),
         HeaderReading::Done(header, inside) => {
             match header_fault(text, cells, scope, walk, header) {
-                Fault::Broken(number, place) => Step::Fault(number, place),
-                Fault::Sound => {
+                Fault::Refused(number, place) => Progressed::Refused(number, place),
+                Fault::None => {
                     if bodies == 0 {
-                        return Step::Fault(18, header.brace);
+                        return Progressed::Refused(18, header.brace);
                     }
                     let kind = header.kind;
-                    let inner = places::inner_scope(scope, walk, kind);
-                    let opening = places::opening_walk(walk, inside);
+                    let inner = scopes::inner_scope(scope, walk, kind);
+                    let opening = scopes::opening_walk(walk, inside);
                     match judge_body(text, cells, bodies - 1, header, inner, opening) {
-                        Step::Fault(number, place) => Step::Fault(number, place),
-                        Step::On(made) => {
-                            let behind = places::after_body(walk, header, made);
+                        Progressed::Refused(number, place) => Progressed::Refused(number, place),
+                        Progressed::Done(made) => {
+                            let behind = scopes::after_body(walk, header, made);
                             judge_tail(text, cells, scope, header, behind)
                         }
                     }
@@ -339,22 +354,22 @@ fn judge_definition(text: &[u8], cells: &mut [u64], bodies: usize, scope: Scope,
 
 // The definitions of a file.
 fn judge_file(text: &[u8], cells: &mut [u64]) -> Ruling
-    requires { ⌜ length (now text) ≤ 65536 ⌝ }
+    requires { ⌜ length (now text) ≤ textLimit ⌝ }
     ensures { λ r. ⌜ Rules (now (text .entry)) (now (cells .entry)) (now (cells .exit)) r ⌝ }
 {
-    let scope = places::root_scope();
-    let mut walk = places::root_walk();
+    let scope = scopes::root_scope();
+    let mut walk = scopes::root_walk();
     loop {
         let token = lex::next_token(text, walk.at);
         let word = token.word;
         if parts::is_end(word) {
-            return places::ruling_of(walk, token.start);
+            return scopes::ruling_of(walk, token.start);
         }
-        match judge_definition(text, cells, BODY_LIMIT, scope, walk) {
-            Step::Fault(number, place) => {
-                return Ruling::Fault(number, place);
+        match judge_definition(text, cells, basics::BODY_LIMIT, scope, walk) {
+            Progressed::Refused(number, place) => {
+                return Ruling::Refused(number, place);
             }
-            Step::On(next) => {
+            Progressed::Done(next) => {
                 walk = next;
             }
         }
@@ -369,9 +384,9 @@ pub fn define(text: &[u8], cells: &mut [u64]) -> Ruling
     ensures cells { λ r. ⌜ Worked (now (text .entry)) (now (cells .entry)) (now (cells .exit)) r ⌝ }
 {
     match lex::first_refusal(text) {
-        Verdict::Refused(number, place) => Ruling::Fault(number, place.at),
+        Verdict::Refused(number, place) => Ruling::Refused(number, place.at),
         Verdict::Accepted => match syntax::first_refusal(text) {
-            Verdict::Refused(number, place) => Ruling::Fault(number, place.at),
+            Verdict::Refused(number, place) => Ruling::Refused(number, place.at),
             Verdict::Accepted => judge_file(text, cells),
         },
     }
@@ -382,6 +397,6 @@ pub fn first_refusal(text: &[u8]) -> Verdict
     ensures answer { λ r. ⌜ r ≡ rulesVerdict (now (text .entry)) ⌝ }
     ensures numbers { λ r. ⌜ verdictNumbers r ≡ judgedNumbers (ruled (now (text .entry))) ⌝ }
 {
-    let mut cells = [0u64; table::SIZE];
-    places::verdict_of(define(text, &mut cells))
+    let mut cells = [0u64; cells::SIZE];
+    scopes::verdict_of(define(text, &mut cells))
 }

@@ -1,8 +1,8 @@
 // Runs the sentence cases of standard input (for each a little-endian u32 length, then the text) and writes a line for each: the
 // first refusal by the words or, if they pass, by the sentences. tests/sentence_cases.py makes the cases.
+use case_io::LONGEST_TEXT;
+use case_io::MOST_CASES;
 use lex::Verdict;
-use testing::LONGEST_TEXT;
-use testing::MOST_CASES;
 
 fn first_refusal(text: &[u8]) -> Verdict {
     let words = lex::first_refusal(text);
@@ -14,11 +14,11 @@ fn first_refusal(text: &[u8]) -> Verdict {
 
 // Runs the next case; answers whether there was one.
 fn run_case(case: u64, room: &mut [u8]) -> bool {
-    let text = testing::read_text(room);
+    let text = case_io::read_text(room);
     let length = text.length;
     if text.whole {
-        testing::put_number(b"", case);
-        testing::put_verdict(first_refusal(&room[..length]));
+        case_io::put_number(b"", case);
+        case_io::put_verdict(first_refusal(&room[..length]));
     }
     text.whole
 }

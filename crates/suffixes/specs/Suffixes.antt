@@ -2,7 +2,7 @@
 use mathlib.Core.Bool.{Bool, true, false, _||_, _&&_, not}
 use Prim.Native.Nat.{ℕ}
 use lib.Dec.{leb, ltb}
-use Rattle.chars.specs.Choice.{if_then_else_}
+use Rattle.basics.specs.Choice.{if_then_else_}
 use Rattle.expressions.specs.declared.Refusal.{Refusal}
 use Rattle.expressions.specs.declared.Refusal.the-variants.{Nowhere, AtOperator}
 use Rattle.expressions.specs.declared.Number.{Number}
@@ -14,25 +14,21 @@ use Rattle.parts.specs.declared.Suffix.the-variants as suffix
 use Rattle.parts.specs.declared.SuffixKind.{SuffixKind}
 use Rattle.parts.specs.declared.SuffixKind.the-variants.{Reset, Address, Stride, Alignment}
 use Rattle.parts.specs.declared.Instance.{Instance}
-use Rattle.settings.specs.Settings.{isField, isAlignment}
-use Rattle.suffixes.specs.Limits.{arrayLimit, widthLimit, addressLimit}
-use Rattle.suffixes.specs.declared.Fault.{Fault}
-use Rattle.suffixes.specs.declared.Fault.the-variants.{Sound, Broken}
-
--- the fault that stands first in the text
-abbrev pub firstOf : Fault → Fault → Fault
-firstOf Sound later = later
-firstOf (Broken number place) later = Broken number place
+use Rattle.property_values.specs.Settings.{isField, isAlignment}
+use Rattle.basics.specs.Limits.{arrayLimit, widthLimit, highestAddress}
+use Rattle.basics.specs.declared.Fault.{Fault}
+use Rattle.basics.specs.declared.Fault.the-variants.{None, Refused}
+use Rattle.basics.specs.Judged.{firstOf}
 
 -- 9 where a number is out of its range
 unfoldable pub ranged : Bool → ℕ → Fault
-ranged true place = Sound
-ranged false place = Broken 9 place
+ranged true place = None
+ranged false place = Refused 9 place
 
 -- "No operator or range over a refused part is judged": 9 at the operator that refuses it
 unfoldable pub settledFault : Refusal → Fault → Fault
 settledFault Nowhere rest = rest
-settledFault (AtOperator place) rest = Broken 9 place
+settledFault (AtOperator place) rest = Refused 9 place
 
 -- "array 1 to 1,024; field width 1 to 64"
 unfoldable pub isSize : Bool → ℕ → Bool
@@ -51,16 +47,16 @@ rangeFault left right = settledFault (left .refusal) (settledFault (right .refus
 
 -- `[n]` or `[left:right]`, of a field or not: a range is for fields alone (11 at its first mark); "a range's left" is where its 9 stands
 abbrev pub arrayFault : Bool → Array → Fault
-arrayFault field array.Missing = Sound
+arrayFault field array.Missing = None
 arrayFault field (array.Size mark n) = sizeFault field n
 arrayFault true (array.Range mark left right) = rangeFault left right
-arrayFault false (array.Range mark left right) = Broken 11 mark
+arrayFault false (array.Range mark left right) = Refused 11 mark
 
 -- the range of each suffix's number
 unfoldable pub suffixRange : SuffixKind → ℕ → Bool
 suffixRange Reset n = true
-suffixRange Address n = leb n addressLimit
-suffixRange Stride n = leb 1 n && leb n addressLimit
+suffixRange Address n = leb n highestAddress
+suffixRange Stride n = leb 1 n && leb n highestAddress
 suffixRange Alignment n = isAlignment n
 
 abbrev pub numberFault : SuffixKind → Number → Fault
@@ -68,8 +64,8 @@ numberFault s n = settledFault (n .refusal) (ranged (suffixRange s (n .value)) (
 
 -- a suffix that may not stand here is 11 at its mark, before 9 at its number
 abbrev pub suffixFault : Bool → SuffixKind → Suffix → Fault
-suffixFault barred s suffix.Missing = Sound
-suffixFault barred s (suffix.Given mark n) = if barred then Broken 11 mark else numberFault s n
+suffixFault barred s suffix.Missing = None
+suffixFault barred s (suffix.Given mark n) = if barred then Refused 11 mark else numberFault s n
 
 abbrev pub isArray : Array → Bool
 isArray array.Missing = false

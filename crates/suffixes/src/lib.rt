@@ -1,4 +1,5 @@
 // The suffixes of an instance: which may stand (11) and which numbers they take (9); and the bits that a field's suffix gives it.
+use basics::Fault;
 use expressions::Number;
 use expressions::Refusal;
 use parts::Array;
@@ -8,38 +9,16 @@ use parts::Suffix;
 use parts::SuffixKind;
 ghost use mathlib.Core.Path.{_≡_};
 ghost use mathlib.Core.Bool.{_||_};
-ghost use Rattle.suffixes.specs.Suffixes.{firstOf, ranged, settledFault, isSize, isRange, sizeFault, rangeFault, arrayFault, suffixRange, numberFault, suffixFault, isArray, isGiven, isBarred, instanceFault};
-
-const ARRAY_LIMIT: u64 = 1024;
-
-const WIDTH_LIMIT: u64 = 64;
-
-const ADDRESS_LIMIT: u64 = 4294967295;
-
-// Nothing broken, or a broken rule's number and its place.
-pub enum Fault {
-    Sound,
-    Broken(u8, usize),
-}
-
-// The fault that stands first in the text.
-pub fn first_of(earlier: Fault, later: Fault) -> Fault
-    ensures { λ r. ⌜ r ≡ firstOf earlier later ⌝ }
-{
-    match earlier {
-        Fault::Sound => later,
-        Fault::Broken(number, place) => Fault::Broken(number, place),
-    }
-}
+ghost use Rattle.suffixes.specs.Suffixes.{ranged, settledFault, isSize, isRange, sizeFault, rangeFault, arrayFault, suffixRange, numberFault, suffixFault, isArray, isGiven, isBarred, instanceFault};
 
 // 9 where a number is out of its range.
 fn ranged_at(fits: bool, place: usize) -> Fault
     ensures { λ r. ⌜ r ≡ ranged fits place ⌝ }
 {
     if fits {
-        return Fault::Sound;
+        return Fault::None;
     }
-    Fault::Broken(9, place)
+    Fault::Refused(9, place)
 }
 
 // The number of `[n]`: a field's width, or the length of an array.
@@ -50,9 +29,9 @@ fn is_size(field: bool, n: u64) -> bool
         return false;
     }
     if field {
-        return n <= WIDTH_LIMIT;
+        return n <= basics::WIDTH_LIMIT;
     }
-    n <= ARRAY_LIMIT
+    n <= basics::ARRAY_LIMIT
 }
 
 fn is_range(left: u64, right: u64) -> bool
@@ -61,7 +40,7 @@ fn is_range(left: u64, right: u64) -> bool
     if left < right {
         return false;
     }
-    left < WIDTH_LIMIT
+    left < basics::WIDTH_LIMIT
 }
 
 // No range over a refused part is judged.
@@ -70,7 +49,7 @@ fn settle(refusal: Refusal, rest: Fault) -> Fault
 {
     match refusal {
         Refusal::Nowhere => rest,
-        Refusal::AtOperator(place) => Fault::Broken(9, place),
+        Refusal::AtOperator(place) => Fault::Refused(9, place),
     }
 }
 
@@ -94,13 +73,13 @@ fn array_fault(field: bool, array: Array) -> Fault
     ensures { λ r. ⌜ r ≡ arrayFault field array ⌝ }
 {
     match array {
-        Array::Missing => Fault::Sound,
+        Array::Missing => Fault::None,
         Array::Size(_, size) => size_fault(field, size),
         Array::Range(mark, left, right) => {
             if field {
                 return range_fault(left, right);
             }
-            Fault::Broken(11, mark)
+            Fault::Refused(11, mark)
         }
     }
 }
@@ -111,7 +90,7 @@ fn is_stride(n: u64) -> bool
     if n < 1 {
         return false;
     }
-    n <= ADDRESS_LIMIT
+    n <= basics::HIGHEST_ADDRESS
 }
 
 fn suffix_range(kind: SuffixKind, n: u64) -> bool
@@ -119,9 +98,9 @@ fn suffix_range(kind: SuffixKind, n: u64) -> bool
 {
     match kind {
         SuffixKind::Reset => true,
-        SuffixKind::Address => n <= ADDRESS_LIMIT,
+        SuffixKind::Address => n <= basics::HIGHEST_ADDRESS,
         SuffixKind::Stride => is_stride(n),
-        SuffixKind::Alignment => settings::is_alignment(n),
+        SuffixKind::Alignment => property_values::is_alignment(n),
     }
 }
 
@@ -139,10 +118,10 @@ fn suffix_fault(barred: bool, kind: SuffixKind, suffix: Suffix) -> Fault
     ensures { λ r. ⌜ r ≡ suffixFault barred kind suffix ⌝ }
 {
     let Suffix::Given(mark, number) = suffix else {
-        return Fault::Sound;
+        return Fault::None;
     };
     if barred {
-        return Fault::Broken(11, mark);
+        return Fault::Refused(11, mark);
     }
     number_fault(kind, number)
 }
@@ -200,18 +179,18 @@ fn fault_of(kind: SuffixKind, field: bool, instance: Instance, suffix: Suffix) -
 pub fn instance_fault(kind: Kind, instance: Instance) -> Fault
     ensures { λ r. ⌜ r ≡ instanceFault kind instance ⌝ }
 {
-    let field = settings::is_field(kind);
+    let field = property_values::is_field(kind);
     let array = instance.array;
     let reset = instance.reset;
     let address = instance.address;
     let stride = instance.stride;
     let alignment = instance.alignment;
     let fifth = fault_of(SuffixKind::Alignment, field, instance, alignment);
-    let fourth = first_of(fault_of(SuffixKind::Stride, field, instance, stride), fifth);
-    let third = first_of(
+    let fourth = basics::first_of(fault_of(SuffixKind::Stride, field, instance, stride), fifth);
+    let third = basics::first_of(
         fault_of(SuffixKind::Address, field, instance, address),
         fourth,
     );
-    let second = first_of(fault_of(SuffixKind::Reset, field, instance, reset), third);
-    first_of(array_fault(field, array), second)
+    let second = basics::first_of(fault_of(SuffixKind::Reset, field, instance, reset), third);
+    basics::first_of(array_fault(field, array), second)
 }

@@ -1,22 +1,20 @@
 -- "a body is read the same with more bodies allowed", and with any number of turns that is enough.
 use mathlib.Core.Bool.{Bool, true, false}
-use mathlib.Core.Path.{_≡_, refl, sym, ap, _∙_}
+use mathlib.Core.Path.{_≡_, sym, _∙_}
 use mathlib.Core.List.{List}
 use Prim.Native.Nat.{ℕ, zero, suc, _+_, _<_, _≤_}
 use native.Mathlib.Omega.{arith}
 use lib.ListN.{length}
-use Rattle.chars.specs.Choice.{if_then_else_}
+use Rattle.basics.specs.Choice.{if_then_else_}
 use Rattle.lex.specs.Token.{tokenAt}
 use Rattle.vocabulary.specs.declared.Mark.the-variants as mark
 use Rattle.parts.specs.Reading.{Parsed, ok, stop, andThen, mapped}
-use Rattle.parts.specs.Words.{isKind, isMark}
+use Rattle.parts.specs.Words.{isKind}
 use Rattle.parts.specs.declared.Header.{Header}
-use Rattle.parts.specs.Words.{isEnd}
-use Rattle.parts.specs.Parts.{listedAt}
 use Rattle.parts.specs.declared.Instance.{Instance}
 use Rattle.parts.proofs.Ends.{Ends, ends-of, mark-past, listed-ends}
-use Rattle.syntax.specs.Limits.{bodyLimit}
-use Rattle.syntax.specs.Tree.{Elem, Body, close, more}
+use Rattle.basics.specs.Limits.{bodyLimit}
+use Rattle.syntax.specs.Tree.{Elem, Body}
 use Rattle.syntax.specs.Grammar.{instancesFrom, statementAt, elementAt, elementsAt, definitionWith, definitionAt, bodyAt, definitionsFrom}
 use Rattle.syntax.proofs.Ends.{element-ends, definition-ends}
 use Rattle.syntax.proofs.Turns.{definition-more}

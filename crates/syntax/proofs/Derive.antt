@@ -1,37 +1,35 @@
 -- "a reading gives its tree": derivations without a number of turns, one constructor for each way that a reading goes on. A second walk
 -- keeps one in its invariant.
 use mathlib.Core.Bool.{Bool, true, false}
-use mathlib.Core.Path.{_≡_, refl, sym, ap, _∙_}
+use mathlib.Core.Path.{_≡_, refl, ap}
 use mathlib.Core.List.{List, [], _∷_}
-use Prim.Native.Nat.{ℕ, zero, suc, _+_, _<_, _≤_}
+use Prim.Native.Nat.{ℕ, zero, suc}
 use native.Mathlib.Omega.{arith}
 use lib.ListN.{length}
-use Rattle.chars.specs.Choice.{if_then_else_}
-use Rattle.chars.proofs.Laws.{either}
+use Rattle.basics.specs.Choice.{if_then_else_}
 use Rattle.lex.specs.Token.{tokenAt}
 use Rattle.vocabulary.specs.declared.Mark.the-variants as mark
 use Rattle.parts.specs.Reading.{Parsed, ok, stop, andThen, mapped}
 use Rattle.parts.specs.Words.{isMark, isEnd}
 use Rattle.parts.specs.Parts.{listedAt, headerAt, isNamed}
 use Rattle.parts.specs.declared.Instance.{Instance}
-use Rattle.parts.specs.declared.Listed.{Listed}
+use Rattle.parts.specs.declared.ListItem.{ListItem}
 use Rattle.parts.specs.declared.Header.{Header}
-use Rattle.syntax.specs.Limits.{bodyLimit}
+use Rattle.basics.specs.Limits.{bodyLimit}
 use Rattle.syntax.specs.Tree.{Elem, definition, Body, close, more}
-use Rattle.syntax.specs.Grammar.{instancesFrom, instancesAt, tailAt, elementAt, elementsAt, definitionWith, definitionAt, bodyAt, definitionsFrom, fileAt}
-use Rattle.syntax.proofs.Turns.{definition-more}
+use Rattle.syntax.specs.Grammar.{instancesFrom, instancesAt, tailAt, elementAt, elementsAt, definitionWith, definitionAt, definitionsFrom, fileAt}
 
 never : {X A : Type 0} {n p m : ℕ} {a : A} → stop n p ≡ ok a m → X
 never e = absurd (let z : _≡_ {A = ℕ} 0 1 = cc in omega arith)
 
 -- a reading in two steps that was not refused
-pub record Steps {A B : Type 0} (p : Parsed A) (k : A → ℕ → Parsed B) (b : B) (n : ℕ) : Type 0 where
+pub record TwoSteps {A B : Type 0} (p : Parsed A) (k : A → ℕ → Parsed B) (b : B) (n : ℕ) : Type 0 where
   pub piece : A
   pub next : ℕ
   pub first : p ≡ ok piece next
   pub second : k piece next ≡ ok b n
 
-pub then-steps : {A B : Type 0} (p : Parsed A) (k : A → ℕ → Parsed B) {b : B} {n : ℕ} → andThen p k ≡ ok b n → Steps p k b n
+pub then-steps : {A B : Type 0} (p : Parsed A) (k : A → ℕ → Parsed B) {b : B} {n : ℕ} → andThen p k ≡ ok b n → TwoSteps p k b n
 unfolding andThen
 then-steps (ok a m) k e = record { piece = a; next = m; first = refl; second = e }
 then-steps (stop m q) k e = never e
@@ -50,8 +48,8 @@ mapped-piece f (stop m q) e = never e
 module _ (t : List ℕ) where
   -- a list of instances from the cursor on
   pub data Lists : ℕ → List Instance → ℕ → Type 0 where
-    lists-last : {at n : ℕ} {l : Listed} → listedAt t at ≡ ok l n → l .last ≡ true → Lists at (l .instance ∷ []) n
-    lists-more : {at n m : ℕ} {l : Listed} {is : List Instance} → listedAt t at ≡ ok l n → l .last ≡ false → Lists n is m → Lists at (l .instance ∷ is) m
+    lists-last : {at n : ℕ} {l : ListItem} → listedAt t at ≡ ok l n → l .last ≡ true → Lists at (l .instance ∷ []) n
+    lists-more : {at n m : ℕ} {l : ListItem} {is : List Instance} → listedAt t at ≡ ok l n → l .last ≡ false → Lists n is m → Lists at (l .instance ∷ is) m
 
   lists-from : (turns at : ℕ) (is : List Instance) (m : ℕ) → instancesFrom turns t at ≡ ok is m → Lists at is m
   unfolding instancesFrom
@@ -60,7 +58,7 @@ module _ (t : List ℕ) where
       let s = then-steps (listedAt t at) _ e in
       by (s .piece) (s .next) (s .first) (lists-from turns (s .next)) (s .piece .last) refl (s .second)
     where
-      by : (l : Listed) (n : ℕ) → listedAt t at ≡ ok l n → ((is : List Instance) (m : ℕ) → instancesFrom turns t n ≡ ok is m → Lists n is m) → (b : Bool) → l .last ≡ b
+      by : (l : ListItem) (n : ℕ) → listedAt t at ≡ ok l n → ((is : List Instance) (m : ℕ) → instancesFrom turns t n ≡ ok is m → Lists n is m) → (b : Bool) → l .last ≡ b
           → (if b then ok (l .instance ∷ []) n else mapped (λ is. l .instance ∷ is) (instancesFrom turns t n)) ≡ ok is m → Lists at is m
       by l n f rec true g h =
           let i : (l .instance ∷ []) ≡ is = cc in

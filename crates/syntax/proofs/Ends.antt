@@ -1,19 +1,16 @@
 -- Where the readings of the grammar end: behind the cursor that they start at, within the text.
-use mathlib.Core.Bool.{Bool, true, false, _&&_}
-use mathlib.Core.Path.{_≡_, refl, sym, _∙_}
-use mathlib.Core.List.{List, [], _∷_}
-use Prim.Native.Nat.{ℕ, zero, suc, _+_, _<_, _≤_}
+use mathlib.Core.Bool.{Bool, _&&_}
+use mathlib.Core.List.{List}
+use Prim.Native.Nat.{ℕ, zero, suc}
 use native.Mathlib.Omega.{arith}
 use lib.ListN.{length}
-use Rattle.chars.specs.Choice.{if_then_else_}
 use Rattle.chars.proofs.Laws.{either, and-right}
 use Rattle.lex.specs.Token.{tokenAt}
 use Rattle.vocabulary.specs.declared.Mark.the-variants as mark
-use Rattle.parts.specs.Reading.{Parsed, ok, stop, andThen, mapped}
-use Rattle.parts.specs.Words.{isKind, isMark, isEnd}
-use Rattle.parts.specs.Parts.{nameAt, listedAt, propertyAt, headerAt, isNamed, startsInstances}
+use Rattle.parts.specs.Reading.{Parsed, stop}
+use Rattle.parts.specs.Words.{isKind, isMark}
+use Rattle.parts.specs.Parts.{isNamed, startsInstances}
 use Rattle.parts.specs.declared.Header.{Header}
-use Rattle.parts.specs.declared.Listed.{Listed}
 use Rattle.parts.proofs.Ends.{Ends, ends-ok, ends-stop, ends-mapped, ends-after, ends-then, mark-past, name-ends, listed-ends, property-ends, header-ends}
 use Rattle.syntax.specs.Tree.{Elem, Body}
 use Rattle.syntax.specs.Grammar.{instancesFrom, instancesAt, instanceStatementAt, statementAt, tailAt, elementAt, elementsAt, definitionWith, definitionAt, bodyAt}

@@ -1,11 +1,10 @@
 -- What an answer says of the reading.
-use mathlib.Core.Path.{_≡_, refl, sym, ap, _∙_}
+use mathlib.Core.Path.{_≡_, refl, ap}
 use Prim.Native.Nat.{ℕ}
 use native.Mathlib.Omega.{arith}
 use Rattle.parts.specs.Reading.{Parsed, ok, stop, andThen, mapped}
 use Rattle.syntax.specs.Answers.{answerOf}
-use Rattle.syntax.specs.declared.Answer.{Answer}
-use Rattle.syntax.specs.declared.Answer.the-variants.{Done, Refused}
+use Rattle.syntax.specs.declared.GrammarReading.the-variants.{Done, Refused}
 
 pub answer-mapped : {A B : Type 0} (f : A → B) (p : Parsed A) → answerOf (mapped f p) ≡ answerOf p
 unfolding answerOf mapped

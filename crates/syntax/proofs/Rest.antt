@@ -1,6 +1,6 @@
 -- The invariant of every loop that follows a definition with turns: what is left to do from here, with turns to spare, gives the whole
 -- answer.
-use mathlib.Core.Path.{_≡_, refl, ap, _∙_}
+use mathlib.Core.Path.{_≡_, ap, _∙_}
 use Prim.Native.Nat.{ℕ, suc, _+_, _-_, _≤_, _<_}
 use native.Mathlib.Omega.{arith}
 

@@ -22,19 +22,16 @@ use Rattle.parts.specs.Words.{isName, kindOf, isKind, isDefault, isProperty, is
 use Rattle.parts.specs.Parts.{closedBy, nameAt, arrayRestAt, arrayAt, suffixAt, bare, setSuffix, withSuffix, bareAt, instanceAt, partedAt, listedAt, valueAt, settingAt, propertyWordAt, propertyAt, headerRestAt, headerAt, startsInstances}
 use Rattle.parts.specs.declared.Name.{Name}
 use Rattle.expressions.specs.declared.Number.{Number}
-use Rattle.parts.specs.declared.Kind.the-variants.{Addrmap, Regfile, Reg, Field}
+use Rattle.parts.specs.declared.Kind.the-variants.{Addrmap, Reg, Field}
 use Rattle.parts.specs.declared.DefinedName.{DefinedName}
 use Rattle.parts.specs.declared.DefinedName.the-variants.{Unnamed, Named}
 use Rattle.parts.specs.declared.Header.{Header}
 use Rattle.parts.specs.declared.Kind.{Kind}
-use Rattle.parts.specs.declared.Array.{Array}
 use Rattle.parts.specs.declared.Array.the-variants as array
-use Rattle.parts.specs.declared.Suffix.{Suffix}
 use Rattle.parts.specs.declared.Suffix.the-variants as suffix
 use Rattle.parts.specs.declared.Instance.{Instance}
 use Rattle.parts.specs.declared.Value.{Value}
 use Rattle.parts.specs.declared.Value.the-variants as value
-use Rattle.parts.specs.declared.Property.{Property}
 use Rattle.syntax.specs.Tree.{Elem, definition, instances, property, Body, close, more}
 use Rattle.syntax.specs.Grammar.{instancesFrom, instancesAt, instanceStatementAt, statementAt, tailAt, elementAt, elementsAt, definitionWith, definitionAt, definitionsFrom, fileAt}
 

@@ -6,15 +6,15 @@ use Rattle.lex.specs.declared.Verdict.{Verdict}
 use Rattle.lex.specs.declared.Verdict.the-variants.{Accepted}
 use Rattle.parts.specs.Reading.{Parsed, ok, stop}
 use Rattle.syntax.specs.Grammar.{fileAt}
-use Rattle.syntax.specs.declared.Answer.{Answer}
-use Rattle.syntax.specs.declared.Answer.the-variants.{Done, Refused}
+use Rattle.syntax.specs.declared.GrammarReading.{GrammarReading}
+use Rattle.syntax.specs.declared.GrammarReading.the-variants.{Done, Refused}
 
 -- the cursor past what was read, or the refusal
-unfoldable pub answerOf : {A : Type 0} → Parsed A → Answer
+unfoldable pub answerOf : {A : Type 0} → Parsed A → GrammarReading
 answerOf (ok a next) = Done next
 answerOf (stop number place) = Refused number place
 
-abbrev pub verdictOf : Answer → Verdict
+abbrev pub verdictOf : GrammarReading → Verdict
 verdictOf (Done next) = Accepted
 verdictOf (Refused number place) = refused number place
 
@@ -23,7 +23,7 @@ unfoldable pub sentenceVerdict : List ℕ → Verdict
 sentenceVerdict text = verdictOf (answerOf (fileAt text))
 
 -- an answer in document 01's numbers: the refusal or 0, its place, 0 where there is none, and the cursor past what was read, 0 where refused
-abbrev pub answerNumbers : Answer → List ℕ
+abbrev pub answerNumbers : GrammarReading → List ℕ
 answerNumbers (Done next) = 0 ∷ 0 ∷ next ∷ []
 answerNumbers (Refused number place) = number ∷ place ∷ 0 ∷ []
 

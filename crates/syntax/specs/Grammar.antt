@@ -5,7 +5,7 @@ use mathlib.Core.Bool.{Bool, _&&_}
 use mathlib.Core.List.{List, [], _∷_}
 use Prim.Native.Nat.{ℕ, zero, suc}
 use lib.ListN.{length}
-use Rattle.chars.specs.Choice.{if_then_else_}
+use Rattle.basics.specs.Choice.{if_then_else_}
 use Rattle.lex.specs.Token.{tokenAt}
 use Rattle.vocabulary.specs.declared.Mark.the-variants as mark
 use Rattle.parts.specs.Reading.{Parsed, ok, stop, andThen, mapped}
@@ -13,7 +13,7 @@ use Rattle.parts.specs.Words.{isKind, isMark, isEnd}
 use Rattle.parts.specs.Parts.{nameAt, listedAt, propertyAt, headerAt, isNamed, startsInstances}
 use Rattle.parts.specs.declared.Instance.{Instance}
 use Rattle.parts.specs.declared.Header.{Header}
-use Rattle.syntax.specs.Limits.{bodyLimit}
+use Rattle.basics.specs.Limits.{bodyLimit}
 use Rattle.syntax.specs.Tree.{Elem, definition, instances, property, Body, close, more}
 
 -- "instances are parted by commas", and `;` ends them

@@ -1,4 +1,3 @@
-pub mod Limits
 pub mod Tree
 pub mod Grammar
 pub mod Answers

@@ -3,7 +3,7 @@ use Prim.Native.Nat.{ℕ}
 use mathlib.Core.List.{List}
 use Rattle.parts.specs.declared.Name.{Name}
 use Rattle.parts.specs.declared.Instance.{Instance}
-use Rattle.parts.specs.declared.Property.{Property}
+use Rattle.parts.specs.declared.Assignment.{Assignment}
 use Rattle.parts.specs.declared.Header.{Header}
 
 mutual
@@ -11,7 +11,7 @@ mutual
   pub data Elem : Type 0 where
     definition : Header → Body → List Instance → Elem
     instances : Name → List Instance → Elem
-    property : Property → Elem
+    property : Assignment → Elem
 
   -- the elements of a body in order, and the place of its closing brace; of a file, the text's end
   pub data Body : Type 0 where

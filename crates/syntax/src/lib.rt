@@ -1,10 +1,10 @@
 // The sentence stage: whether a text keeps the grammar, and if not, where it first breaks. The readers keep no tree; the grammar's
 // definitions give it.
 use lex::Verdict;
+use parts::AssignmentReading;
 use parts::HeaderReading;
-use parts::ListedReading;
+use parts::ListItemReading;
 use parts::NameReading;
-use parts::PropertyReading;
 use vocabulary::Mark;
 ghost use mathlib.Core.Path.{_≡_};
 ghost use Rattle.syntax.specs.Grammar.{instancesAt, instanceStatementAt, statementAt, tailAt, bodyAt, definitionAt, fileAt};
@@ -12,56 +12,54 @@ ghost use Rattle.parts.specs.Parts.{propertyAt};
 ghost use Rattle.lex.specs.Words.{verdictNumbers};
 ghost use Rattle.syntax.specs.Answers.{answerOf, verdictOf, sentenceVerdict, answerNumbers, readingNumbers, sentenceNumbers};
 
-const BODY_LIMIT: usize = 8;
-
 // The cursor past what was read, or the refusal's number and place.
-pub enum Answer {
+pub enum GrammarReading {
     Done(usize),
     Refused(u8, usize),
 }
 
 // Instances parted by commas, up to the semicolon.
-fn read_instances(text: &[u8], start: usize) -> Answer
+fn read_instances(text: &[u8], start: usize) -> GrammarReading
     ensures { λ r. ⌜ r ≡ answerOf (instancesAt (now (text .entry)) start) ⌝ }
 {
     let mut at = start;
     loop {
         match parts::read_listed(text, at) {
-            ListedReading::Done(listed, next) => {
+            ListItemReading::Done(listed, next) => {
                 if listed.last {
-                    return Answer::Done(next);
+                    return GrammarReading::Done(next);
                 }
                 at = next;
             }
-            ListedReading::Stop(number, place) => {
-                return Answer::Refused(number, place);
+            ListItemReading::Refused(number, place) => {
+                return GrammarReading::Refused(number, place);
             }
         }
     }
 }
 
 // An instance statement: a type's name, then instances.
-fn read_instance_statement(text: &[u8], at: usize) -> Answer
+fn read_instance_statement(text: &[u8], at: usize) -> GrammarReading
     ensures { λ r. ⌜ r ≡ answerOf (instanceStatementAt (now (text .entry)) at) ⌝ }
 {
     match parts::read_name(text, at) {
         NameReading::Done(_, next) => read_instances(text, next),
-        NameReading::Stop(place) => Answer::Refused(3, place),
+        NameReading::Refused(place) => GrammarReading::Refused(3, place),
     }
 }
 
 // A property statement.
-fn read_property_statement(text: &[u8], at: usize) -> Answer
+fn read_property_statement(text: &[u8], at: usize) -> GrammarReading
     ensures { λ r. ⌜ r ≡ answerOf (propertyAt (now (text .entry)) at) ⌝ }
 {
     match parts::read_property(text, at) {
-        PropertyReading::Done(_, next) => Answer::Done(next),
-        PropertyReading::Stop(number, place) => Answer::Refused(number, place),
+        AssignmentReading::Done(_, next) => GrammarReading::Done(next),
+        AssignmentReading::Refused(number, place) => GrammarReading::Refused(number, place),
     }
 }
 
 // A statement that opens no body.
-fn read_statement(text: &[u8], at: usize) -> Answer
+fn read_statement(text: &[u8], at: usize) -> GrammarReading
     ensures { λ r. ⌜ r ≡ answerOf (statementAt (now (text .entry)) at) ⌝ }
 {
     if parts::starts_instances(text, at) {
@@ -71,7 +69,7 @@ fn read_statement(text: &[u8], at: usize) -> Answer
 }
 
 // What follows a definition's body: instances, or nothing where it has a name; then a semicolon.
-fn read_tail(text: &[u8], at: usize, named: bool) -> Answer
+fn read_tail(text: &[u8], at: usize, named: bool) -> GrammarReading
     ensures { λ r. ⌜ r ≡ answerOf (tailAt named (now (text .entry)) at) ⌝ }
 {
     if !named {
@@ -80,13 +78,13 @@ fn read_tail(text: &[u8], at: usize, named: bool) -> Answer
     let token = lex::next_token(text, at);
     let word = token.word;
     if parts::is_mark(word, Mark::Semicolon) {
-        return Answer::Done(token.end);
+        return GrammarReading::Done(token.end);
     }
     read_instances(text, at)
 }
 
 // The elements of a body up to its closing brace, where so many more bodies may be opened inside.
-fn read_body(text: &[u8], start: usize, bodies: usize) -> Answer
+fn read_body(text: &[u8], start: usize, bodies: usize) -> GrammarReading
     ensures { λ r. ⌜ r ≡ answerOf (bodyAt bodies (now (text .entry)) start) ⌝ }
 {
     let mut at = start;
@@ -94,24 +92,24 @@ fn read_body(text: &[u8], start: usize, bodies: usize) -> Answer
         let token = lex::next_token(text, at);
         let word = token.word;
         if parts::is_mark(word, Mark::CloseBrace) {
-            return Answer::Done(token.end);
+            return GrammarReading::Done(token.end);
         }
         if parts::is_kind(word) {
             match read_definition(text, at, bodies) {
-                Answer::Done(next) => {
+                GrammarReading::Done(next) => {
                     at = next;
                 }
-                Answer::Refused(number, place) => {
-                    return Answer::Refused(number, place);
+                GrammarReading::Refused(number, place) => {
+                    return GrammarReading::Refused(number, place);
                 }
             }
         } else {
             match read_statement(text, at) {
-                Answer::Done(next) => {
+                GrammarReading::Done(next) => {
                     at = next;
                 }
-                Answer::Refused(number, place) => {
-                    return Answer::Refused(number, place);
+                GrammarReading::Refused(number, place) => {
+                    return GrammarReading::Refused(number, place);
                 }
             }
         }
@@ -119,19 +117,19 @@ fn read_body(text: &[u8], start: usize, bodies: usize) -> Answer
 }
 
 // A definition, where so many bodies may still be opened.
-pub fn read_definition(text: &[u8], at: usize, bodies: usize) -> Answer
+fn read_definition(text: &[u8], at: usize, bodies: usize) -> GrammarReading
     ensures answer { λ r. ⌜ r ≡ answerOf (definitionAt bodies (now (text .entry)) at) ⌝ }
     ensures numbers { λ r. ⌜ answerNumbers r ≡ readingNumbers (definitionAt bodies (now (text .entry)) at) ⌝ }
 {
     match parts::read_header(text, at) {
-        HeaderReading::Stop(place) => Answer::Refused(3, place),
+        HeaderReading::Refused(place) => GrammarReading::Refused(3, place),
         HeaderReading::Done(header, inside) => {
             if bodies == 0 {
-                return Answer::Refused(18, header.brace);
+                return GrammarReading::Refused(18, header.brace);
             }
             match read_body(text, inside, bodies - 1) {
-                Answer::Refused(number, place) => Answer::Refused(number, place),
-                Answer::Done(next) => {
+                GrammarReading::Refused(number, place) => GrammarReading::Refused(number, place),
+                GrammarReading::Done(next) => {
                     let name = header.name;
                     read_tail(text, next, parts::is_named(name))
                 }
@@ -141,7 +139,7 @@ pub fn read_definition(text: &[u8], at: usize, bodies: usize) -> Answer
 }
 
 // The definitions of a file.
-pub fn read_file(text: &[u8]) -> Answer
+fn read_file(text: &[u8]) -> GrammarReading
     ensures answer { λ r. ⌜ r ≡ answerOf (fileAt (now (text .entry))) ⌝ }
     ensures numbers { λ r. ⌜ answerNumbers r ≡ readingNumbers (fileAt (now (text .entry))) ⌝ }
 {
@@ -150,25 +148,25 @@ pub fn read_file(text: &[u8]) -> Answer
         let token = lex::next_token(text, at);
         let word = token.word;
         if parts::is_end(word) {
-            return Answer::Done(token.end);
+            return GrammarReading::Done(token.end);
         }
-        match read_definition(text, at, BODY_LIMIT) {
-            Answer::Done(next) => {
+        match read_definition(text, at, basics::BODY_LIMIT) {
+            GrammarReading::Done(next) => {
                 at = next;
             }
-            Answer::Refused(number, place) => {
-                return Answer::Refused(number, place);
+            GrammarReading::Refused(number, place) => {
+                return GrammarReading::Refused(number, place);
             }
         }
     }
 }
 
-fn to_verdict(answer: Answer) -> Verdict
+fn to_verdict(answer: GrammarReading) -> Verdict
     ensures { λ r. ⌜ r ≡ verdictOf answer ⌝ }
 {
     match answer {
-        Answer::Done(_) => Verdict::Accepted,
-        Answer::Refused(number, place) => lex::refuse(number, place),
+        GrammarReading::Done(_) => Verdict::Accepted,
+        GrammarReading::Refused(number, place) => lex::refuse(number, place),
     }
 }
 

@@ -10,30 +10,30 @@ const BYTE: u8 = b'.';
 fn put_compiled(answer: Compiled) {
     match answer {
         Compiled::Refused(number, place) => {
-            testing::put_number(b" refused=", number as u64);
-            testing::put_number(b" at=", place.at as u64);
+            case_io::put_number(b" refused=", number as u64);
+            case_io::put_number(b" at=", place.at as u64);
         }
         Compiled::Accepted(registers, fields) => {
-            testing::put_number(b" registers=", registers as u64);
-            testing::put_number(b" fields=", fields as u64);
+            case_io::put_number(b" registers=", registers as u64);
+            case_io::put_number(b" fields=", fields as u64);
         }
     }
 }
 
 fn put_listed(answer: Listed) {
     match answer {
-        Listed::Refused(number) => testing::put_number(b" refused=", number as u64),
-        Listed::Written(count) => testing::put_number(b" written=", count as u64),
+        Listed::Refused(number) => case_io::put_number(b" refused=", number as u64),
+        Listed::Written(count) => case_io::put_number(b" written=", count as u64),
     }
 }
 
 fn put_kept(label: &[u8], kept: bool) {
-    testing::put(label);
+    case_io::put(label);
     if kept {
-        testing::put(b"=kept");
+        case_io::put(b"=kept");
         return;
     }
-    testing::put(b"=written");
+    case_io::put(b"=written");
 }
 
 // Whether all numbers are those from before the call.
@@ -68,14 +68,14 @@ fn show_compiled(
     fields: &mut [u64],
     labels: &mut [u8],
 ) {
-    testing::put(label);
+    case_io::put(label);
     let text = b"addrmap m { reg { field {} f; } a; };";
     put_compiled(compile::compile(text, registers, paths, fields, labels));
     put_kept(b" registers", are_kept_numbers(registers));
     put_kept(b" paths", are_kept_bytes(paths));
     put_kept(b" fields", are_kept_numbers(fields));
     put_kept(b" labels", are_kept_bytes(labels));
-    testing::put(b"\n");
+    case_io::put(b"\n");
 }
 
 // Lists the rows of the tables to an output: a label, what is answered, and whether the output was written.
@@ -87,10 +87,10 @@ fn show_listed(
     labels: &[u8],
     out: &mut [u8],
 ) {
-    testing::put(label);
+    case_io::put(label);
     put_listed(listing::list(registers, paths, fields, labels, out));
     put_kept(b" output", are_kept_bytes(out));
-    testing::put(b"\n");
+    case_io::put(b"\n");
 }
 
 fn registers_short() {
@@ -180,7 +180,7 @@ fn just_fit() {
         &labels,
         &mut output,
     );
-    testing::put(&output);
+    case_io::put(&output);
 }
 
 // Without a register there are no lawful rows.

@@ -6,7 +6,6 @@ use Prim.Native.Nat.{ℕ}
 use native.Mathlib.Omega.{arith}
 use lib.ListN.{length}
 use Rattle.chars.specs.Ascii.{bytes}
-use Rattle.chars.specs.Choice.{if_then_else_}
 use Rattle.chars.specs.Same.{sameBytes}
 use Rattle.chars.proofs.Laws.{either, same-equal}
 use Rattle.vocabulary.specs.declared.Keyword.{Keyword}

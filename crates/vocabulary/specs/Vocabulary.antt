@@ -2,7 +2,7 @@
 use mathlib.Core.List.{List, [], _∷_, _++_}
 use Prim.Native.Nat.{ℕ}
 use Rattle.chars.specs.Ascii.{bytes}
-use Rattle.chars.specs.Choice.{if_then_else_}
+use Rattle.basics.specs.Choice.{if_then_else_}
 use Rattle.chars.specs.Same.{sameBytes}
 use Rattle.vocabulary.specs.declared.Keyword.{Keyword}
 use Rattle.vocabulary.specs.declared.Keyword.the-variants as keyword

@@ -1,12 +1,12 @@
 // Runs the word cases of standard input (for each a little-endian u32 length, then the text) and writes a line for each: the
 // first tokens, how many there are up to the end or a bad word, and the first refusal. tests/word_cases.py makes the cases.
+use case_io::LONGEST_TEXT;
+use case_io::MOST_CASES;
+use case_io::put;
+use case_io::put_number;
 use lex::Cause;
 use lex::Token;
 use lex::Word;
-use testing::LONGEST_TEXT;
-use testing::MOST_CASES;
-use testing::put;
-use testing::put_number;
 
 const SHOWN_TOKENS: usize = 12;
 
@@ -92,12 +92,12 @@ fn show_case(case: u64, text: &[u8]) {
     put_number(b"", case);
     let count = show_tokens(text);
     put_number(b" tokens=", count as u64);
-    testing::put_verdict(lex::first_refusal(text));
+    case_io::put_verdict(lex::first_refusal(text));
 }
 
 // Runs the next case; answers whether there was one.
 fn run_case(case: u64, room: &mut [u8]) -> bool {
-    let text = testing::read_text(room);
+    let text = case_io::read_text(room);
     let length = text.length;
     if text.whole {
         show_case(case, &room[..length]);

@@ -19,13 +19,13 @@ are-fitting-spec =
     (tie.spec
     Inv-loop
     μ-loop
-    (λ c. search fit-loop)
-    (λ c κs. search needs)
-    (λ c. search needs)
-    (λ c. search needs)
-    (λ c κs. search (field-order, field-top))
-    (λ c. search fit-loop)
-    (λ c. search needs)
-    (λ c. search needs)
-    (λ c. search fit-loop)
-    (λ c. search fit-loop))
+    (λ c. search fit-loop)  -- loop-holds
+    (λ c κs. search needs)  -- field-row-requires
+    (λ c. search needs)  -- mul-is-fitting
+    (λ c. search needs)  -- shared-slice-read-is-fitting
+    (λ c κs. search (field-order, field-top))  -- is-fitting-requires
+    (λ c. search fit-loop)  -- returns
+    (λ c. search needs)  -- add-j
+    (λ c. search needs)  -- loop-less
+    (λ c. search fit-loop)  -- loop-again
+    (λ c. search fit-loop))  -- returns-2

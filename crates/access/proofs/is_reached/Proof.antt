@@ -1,4 +1,4 @@
--- The registers that are left have the same answer from every register that the loop passes.
+-- Some register is reached exactly where one of those that are left is: none of those passed is.
 use borrow.Author.Needs.{needs}
 use Prim.Native.Nat.{_-_}
 use mathlib.Core.Path.{_≡_}
@@ -19,12 +19,12 @@ is-reached-spec =
     (tie.spec
     Inv-loop
     μ-loop
-    (λ c. search reach-loop)
-    (λ c κs. search needs)
-    (λ c κs. search needs)
-    (λ c κs. search needs)
-    (λ c. search reach-loop)
-    (λ c. search needs)
-    (λ c. search needs)
-    (λ c. search reach-loop)
-    (λ c. search reach-loop))
+    (λ c. search reach-loop)  -- loop-holds
+    (λ c κs. search needs)  -- register-row-requires
+    (λ c κs. search needs)  -- register-of-requires
+    (λ c κs. search needs)  -- reaches-register-requires
+    (λ c. search reach-loop)  -- returns
+    (λ c. search needs)  -- add-i
+    (λ c. search needs)  -- loop-less
+    (λ c. search reach-loop)  -- loop-again
+    (λ c. search reach-loop))  -- returns-2

@@ -21,15 +21,16 @@ put-resets-spec =
     (tie.spec
     Inv-loop
     μ-loop
-    (λ c. search (needs, reset-loop))
-    (λ c κs. search needs)
-    (λ c κs. search needs)
-    (λ c. search needs)
-    (λ c. search needs)
-    (λ c. search needs)
-    (λ c. search needs)
+    (λ c. search (needs, reset-loop))  -- loop-holds
+    (λ c κs. search needs)  -- field-row-requires
+    (λ c κs. search needs)  -- reset-of-requires
+    (λ c. search needs)  -- mul-store
+    (λ c. search needs)  -- slice-write-store
+    (λ c. search needs)  -- add-j
+    (λ c. search needs)  -- loop-less
+    -- loop-again
     (λ c.
     let p0 = c .before .before in
     (search needs, search needs, reset-on _ _ _ _ (p0 .before .loop .inv .2) (search needs) (c .before .field-row .ensures) (c .reset-of .ensures)))
-    (λ c. search needs)
-    (λ c. search (needs, reset-loop)))
+    (λ c. search needs)  -- same-length
+    (λ c. search (needs, reset-loop)))  -- returns

@@ -1,4 +1,4 @@
--- The registers that are left have the same answer from every register that the loop passes.
+-- The access may be sent again exactly where it may for the registers that are left: for those passed it may.
 use borrow.Author.Needs.{needs}
 use Prim.Native.Nat.{_-_}
 use mathlib.Core.Path.{_≡_}
@@ -20,11 +20,11 @@ rows-repeat-spec =
     (tie.spec
     Inv-loop
     μ-loop
-    (λ c. search repeat-loop)
-    (λ c κs. search row-small)
-    (λ c κs. search row-runs)
-    (λ c. search repeat-loop)
-    (λ c. search needs)
-    (λ c. search needs)
-    (λ c. search repeat-loop)
-    (λ c. search repeat-loop))
+    (λ c. search repeat-loop)  -- loop-holds
+    (λ c κs. search row-small)  -- register-row-requires
+    (λ c κs. search row-runs)  -- run-repeats-requires
+    (λ c. search repeat-loop)  -- returns
+    (λ c. search needs)  -- add-i
+    (λ c. search needs)  -- loop-less
+    (λ c. search repeat-loop)  -- loop-again
+    (λ c. search repeat-loop))  -- returns-2

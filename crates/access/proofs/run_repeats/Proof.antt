@@ -20,13 +20,13 @@ run-repeats-spec =
     (tie.spec
     Inv-loop
     μ-loop
-    (λ c. search again-loop)
-    (λ c. search needs)
-    (λ c κs. search needs)
-    (λ c κs. search needs)
-    (λ c κs. search field-usable)
-    (λ c. search again-loop)
-    (λ c. search needs)
-    (λ c. search needs)
-    (λ c. search again-loop)
-    (λ c. search again-loop))
+    (λ c. search again-loop)  -- loop-holds
+    (λ c. search needs)  -- add-j
+    (λ c κs. search needs)  -- field-row-requires
+    (λ c κs. search needs)  -- stored-field-requires
+    (λ c κs. search field-usable)  -- repeats-all-requires
+    (λ c. search again-loop)  -- returns
+    (λ c. search needs)  -- add-k
+    (λ c. search needs)  -- loop-less
+    (λ c. search again-loop)  -- loop-again
+    (λ c. search again-loop))  -- returns-2

@@ -21,17 +21,23 @@ step-rows-spec =
     (tie.spec
     Inv-loop
     μ-loop
-    (λ c. search (needs, steps-loop))
-    (λ c κs. search row-small)
+    (λ c. search (needs, steps-loop))  -- loop-holds
+    (λ c κs. search row-small)  -- register-row-requires
+    -- step-run-requires
     (λ c κs.
-    let p0 = c .before .before in
-    let p = p0 .before .before .before .before .before in
-    (row-runs _ _ _ _ (p .pre .0) (p0 .loop-test .taken) (c .before .register-row .ensures), row-room _ _ _ _ (p .pre .0) (p0 .loop-test .taken) (c .before .register-row .ensures) (p .args .store .now) (p0 .before .loop .store) (p .pre .1) (p0 .before .loop .inv .1)))
-    (λ c. search needs)
-    (λ c. search needs)
+    let at-register-row = c .before in
+    let at-loop-test = at-register-row .before in
+    let at-loop = at-loop-test .before in
+    let at-start = at-loop .before .before .before .before in
+    (row-runs _ _ _ _ (at-start .pre .0) (at-loop-test .loop-test .taken) (at-register-row .register-row .ensures), row-room _ _ _ _ (at-start .pre .0) (at-loop-test .loop-test .taken) (at-register-row .register-row .ensures) (at-start .args .store .now) (at-loop .loop .store) (at-start .pre .1) (at-loop .loop .inv .1)))
+    (λ c. search needs)  -- add-i
+    (λ c. search needs)  -- loop-less
+    -- loop-again
     (λ c.
-    let p0 = c .before .before .before .before .before in
-    let p = p0 .before .before .before .before .before in
-    (search needs, steps-long _ _ (p .args .store .now) (p0 .before .loop .store) _ (p0 .before .loop .inv .1) (c .before .before .step-run .ensures), steps-on _ _ _ _ _ _ (p0 .before .loop .inv .2) (c .before .before .before .before .register-row .ensures) (c .before .before .step-run .ensures)))
-    (λ c. search needs)
-    (λ c. search (needs, steps-loop)))
+    let at-step-run = c .before .before in
+    let at-register-row = at-step-run .before .before in
+    let at-loop = at-register-row .before .before in
+    let at-start = at-loop .before .before .before .before in
+    (search needs, steps-long _ _ (at-start .args .store .now) (at-loop .loop .store) _ (at-loop .loop .inv .1) (at-step-run .step-run .ensures), steps-on _ _ _ _ _ _ (at-loop .loop .inv .2) (at-register-row .register-row .ensures) (at-step-run .step-run .ensures)))
+    (λ c. search needs)  -- same-length
+    (λ c. search (needs, steps-loop)))  -- returns

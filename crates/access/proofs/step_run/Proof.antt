@@ -21,19 +21,20 @@ step-run-spec =
     (tie.spec
     Inv-loop
     μ-loop
-    (λ c. search (needs, step-loop))
-    (λ c. search needs)
-    (λ c κs. search needs)
-    (λ c κs. search needs)
-    (λ c. search needs)
-    (λ c. search needs)
-    (λ c κs. search field-usable)
-    (λ c. search needs)
-    (λ c. search needs)
-    (λ c. search needs)
-    (λ c. search needs)
+    (λ c. search (needs, step-loop))  -- loop-holds
+    (λ c. search needs)  -- add-j
+    (λ c κs. search needs)  -- field-row-requires
+    (λ c κs. search needs)  -- stored-field-requires
+    (λ c. search needs)  -- mul-number-after
+    (λ c. search needs)  -- slice-read-number-after
+    (λ c κs. search field-usable)  -- number-after-requires
+    (λ c. search needs)  -- mul-store
+    (λ c. search needs)  -- slice-write-store
+    (λ c. search needs)  -- add-k
+    (λ c. search needs)  -- loop-less
+    -- loop-again
     (λ c.
     let p0 = c .before .before .before .before in
     (search needs, search needs, step-on _ _ _ _ _ _ _ (p0 .before .loop .inv .2) (c .before .before .before .field-row .ensures) (c .before .before .stored-field .ensures) (c .number-after .ensures)))
-    (λ c. search needs)
-    (λ c. search (needs, step-loop)))
+    (λ c. search needs)  -- same-length
+    (λ c. search (needs, step-loop)))  -- returns

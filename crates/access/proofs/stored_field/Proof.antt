@@ -1,3 +1,4 @@
+-- The view has the register of its row; the rest is copied.
 use borrow.Author.Needs.{needs}
 use Rattle.access.proofs.stored_field.Statement.{statement}
 use Rattle.access.proofs.stored_field.Tie as tie
@@ -6,5 +7,5 @@ pub stored-field-spec : {M : Type 1} → statement M
 stored-field-spec =
     tie.close
     (tie.spec
-    (λ c κs. search needs)
-    (λ c. rw (c .register-of .ensures)))
+    (λ c κs. search needs)  -- register-of-requires
+    (λ c. rw (c .register-of .ensures)))  -- returns

@@ -21,16 +21,20 @@ word-of-rows-spec =
     (tie.spec
     Inv-loop
     μ-loop
-    (λ c. search (needs, joins-loop))
-    (λ c κs. search row-small)
+    (λ c. search (needs, joins-loop))  -- loop-holds
+    (λ c κs. search row-small)  -- register-row-requires
+    -- word-of-run-requires
     (λ c κs.
-    let p0 = c .before in
-    let p = p0 .before .before .before .before .before in
-    (row-runs _ _ _ _ (p .pre .0) (p0 .loop-test .taken) (c .register-row .ensures), row-room _ _ _ _ (p .pre .0) (p0 .loop-test .taken) (c .register-row .ensures) (p .args .store .now) (p .args .store .now) (p .pre .1) refl))
-    (λ c. search needs)
-    (λ c. search needs)
+    let at-loop-test = c .before in
+    let at-loop = at-loop-test .before in
+    let at-start = at-loop .before .before .before .before in
+    (row-runs _ _ _ _ (at-start .pre .0) (at-loop-test .loop-test .taken) (c .register-row .ensures), row-room _ _ _ _ (at-start .pre .0) (at-loop-test .loop-test .taken) (c .register-row .ensures) (at-start .args .store .now) (at-start .args .store .now) (at-start .pre .1) refl))
+    (λ c. search needs)  -- add-i
+    (λ c. search needs)  -- loop-less
+    -- loop-again
     (λ c.
-    let p0 = c .before .before in
-    let p = p0 .before .before .before .before .before in
-    (search needs, joins-on _ _ _ _ (p .args .store .now) _ _ (p0 .before .loop .inv .1) (c .before .register-row .ensures) (c .word-of-run .ensures)))
-    (λ c. search (needs, joins-loop)))
+    let at-register-row = c .before in
+    let at-loop = at-register-row .before .before in
+    let at-start = at-loop .before .before .before .before in
+    (search needs, joins-on _ _ _ _ (at-start .args .store .now) _ _ (at-loop .loop .inv .1) (at-register-row .register-row .ensures) (c .word-of-run .ensures)))
+    (λ c. search (needs, joins-loop)))  -- returns

@@ -21,16 +21,17 @@ word-of-run-spec =
     (tie.spec
     Inv-loop
     μ-loop
-    (λ c. search (needs, join-loop))
-    (λ c. search needs)
-    (λ c κs. search needs)
-    (λ c κs. search needs)
-    (λ c. search needs)
-    (λ c. search needs)
-    (λ c κs. search field-usable)
-    (λ c. search needs)
-    (λ c. search needs)
+    (λ c. search (needs, join-loop))  -- loop-holds
+    (λ c. search needs)  -- add-j
+    (λ c κs. search needs)  -- field-row-requires
+    (λ c κs. search needs)  -- stored-field-requires
+    (λ c. search needs)  -- mul-word-of
+    (λ c. search needs)  -- shared-slice-read-word-of
+    (λ c κs. search field-usable)  -- word-of-requires
+    (λ c. search needs)  -- add-k
+    (λ c. search needs)  -- loop-less
+    -- loop-again
     (λ c.
     let p0 = c .before .before .before .before in
     (search needs, join-on _ _ _ _ _ (p0 .before .before .before .before .args .store .now) _ _ (p0 .before .loop .inv .1) (c .before .before .before .field-row .ensures) (c .before .before .stored-field .ensures) (c .word-of .ensures)))
-    (λ c. search (needs, join-loop)))
+    (λ c. search (needs, join-loop)))  -- returns

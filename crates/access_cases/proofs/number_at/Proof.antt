@@ -5,10 +5,10 @@ use Rattle.access_cases.proofs.number_at.Statement.{statement}
 use Rattle.access_cases.proofs.number_at.Tie as tie
 
 abbrev Inv-loop : tie.InvT-loop
-Inv-loop bytes slot value₀ k₀ value k = k ≤ 8
+Inv-loop bytes index value₀ k₀ value k = k ≤ 8
 
 abbrev μ-loop : tie.MeasureT-loop
-μ-loop bytes slot value₀ k₀ value k = k
+μ-loop bytes index value₀ k₀ value k = k
 
 pub number-at-spec : {M : Type 1} → statement M
 number-at-spec =
@@ -16,12 +16,12 @@ number-at-spec =
     (tie.spec
     Inv-loop
     μ-loop
-    (λ c. search needs)
-    (λ c. search needs)
-    (λ c. search needs)
-    (λ c. search needs)
-    (λ c. search needs)
-    (λ c κs. search needs)
-    (λ c. search needs)
-    (λ c. search needs)
-    (λ c. search needs))
+    (λ c. search needs)  -- loop-holds
+    (λ c. search needs)  -- sub-k
+    (λ c. search needs)  -- mul-wide
+    (λ c. search needs)  -- add-wide
+    (λ c. search needs)  -- element-copy-out-wide
+    (λ c κs. search needs)  -- wide-requires
+    (λ c. search needs)  -- loop-less
+    (λ c. search needs)  -- loop-again
+    (λ c. search needs))  -- returns

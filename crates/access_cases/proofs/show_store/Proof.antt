@@ -17,14 +17,14 @@ show-store-spec =
     (tie.spec
     Inv-loop
     μ-loop
-    (λ c. search needs)
-    (λ c. search needs)
-    (λ c. search needs)
-    (λ c. search needs)
-    (λ c κs. search needs)
-    (λ c. search needs)
-    (λ c. search needs)
-    (λ c. search needs)
-    (λ c. search needs)
-    (λ c κs. search needs)
-    (λ c. search needs))
+    (λ c. search needs)  -- loop-holds
+    (λ c. search needs)  -- slice-aggregate-put-number
+    (λ c. search needs)  -- mul-put-number
+    (λ c. search needs)  -- shared-slice-read-put-number
+    (λ c κs. search needs)  -- put-number-requires
+    (λ c. search needs)  -- add-k
+    (λ c. search needs)  -- loop-less
+    (λ c. search needs)  -- loop-again
+    (λ c. search needs)  -- slice-aggregate-put
+    (λ c κs. search needs)  -- put-requires
+    (λ c. search needs))  -- returns

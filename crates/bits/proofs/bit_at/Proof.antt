@@ -1,4 +1,4 @@
--- `bits::bit_at` meets its contract.
+-- A number shifted down by i is odd exactly where its bit i is set.
 use Prim.Native.Nat.{_/_, _%_, _^_}
 use Rattle.bits.specs.Bits.{bit}
 use Rattle.bits.proofs.BitLaws.{nonzero-test}

@@ -1,3 +1,4 @@
+-- Within the text it is the byte; past the end it is 0.
 use borrow.Author.Needs.{needs}
 use lib.ListN.{List·getD-eq-default}
 use mathlib.Core.Path.{sym}
@@ -9,6 +10,6 @@ pub byte-at-spec : {M : Type 1} → statement M
 byte-at-spec =
     tie.close
     (tie.spec
-    (λ c. search needs)
-    (λ c. search needs)
-    (λ c. sym (List·getD-eq-default (now (c .before .args .text)) 0 (c .if1 .left))))
+    (λ c. search needs)  -- shared-slice-read-result
+    (λ c. search needs)  -- returns
+    (λ c. sym (List·getD-eq-default (now (c .before .args .text)) 0 (c .if1 .left))))  -- returns-2

@@ -1,3 +1,4 @@
+-- A hex digit lies in one of three runs of bytes.
 use borrow.Author.Needs.{needs}
 use Rattle.chars.proofs.Laws.{ors}
 use Rattle.chars.specs.Ascii.{isHexDigit}
@@ -9,9 +10,9 @@ unfolding isHexDigit
 is-hex-digit-spec =
     tie.close
     (tie.spec
-    (λ c κs. search needs)
-    (λ c. search ors)
-    (λ c κs. search needs)
-    (λ c. search ors)
-    (λ c κs. search needs)
-    (λ c. search ors))
+    (λ c κs. search needs)  -- within-requires
+    (λ c. search ors)  -- returns
+    (λ c κs. search needs)  -- within-requires-2
+    (λ c. search ors)  -- returns-2
+    (λ c κs. search needs)  -- within-requires-3
+    (λ c. search ors))  -- returns-3

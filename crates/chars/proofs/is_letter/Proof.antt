@@ -1,3 +1,4 @@
+-- A letter is small, capital or the underscore.
 use borrow.Author.Needs.{needs}
 use Rattle.chars.proofs.Laws.{ors}
 use Rattle.chars.specs.Ascii.{isLetter}
@@ -9,8 +10,8 @@ unfolding isLetter
 is-letter-spec =
     tie.close
     (tie.spec
-    (λ c κs. search needs)
-    (λ c. search ors)
-    (λ c κs. search needs)
-    (λ c. search ors)
-    (λ c. search ors))
+    (λ c κs. search needs)  -- within-requires
+    (λ c. search ors)  -- returns
+    (λ c κs. search needs)  -- within-requires-2
+    (λ c. search ors)  -- returns-2
+    (λ c. search ors))  -- returns-3

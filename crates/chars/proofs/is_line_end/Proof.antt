@@ -1,4 +1,4 @@
-use borrow.Author.Needs.{needs}
+-- A line ends at either of two bytes.
 use Rattle.chars.proofs.Laws.{ors}
 use Rattle.chars.specs.Ascii.{isLineEnd}
 use Rattle.chars.proofs.is_line_end.Statement.{statement}
@@ -9,5 +9,5 @@ unfolding isLineEnd
 is-line-end-spec =
     tie.close
     (tie.spec
-    (λ c. search ors)
-    (λ c. search ors))
+    (λ c. search ors)  -- returns
+    (λ c. search ors))  -- returns-2

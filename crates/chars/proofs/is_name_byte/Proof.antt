@@ -1,3 +1,4 @@
+-- A name's byte is a letter or a digit.
 use borrow.Author.Needs.{needs}
 use Rattle.chars.proofs.Laws.{ors}
 use Rattle.chars.specs.Ascii.{isNameByte}
@@ -9,7 +10,7 @@ unfolding isNameByte
 is-name-byte-spec =
     tie.close
     (tie.spec
-    (λ c κs. search needs)
-    (λ c. search ors)
-    (λ c κs. search needs)
-    (λ c. search ors))
+    (λ c κs. search needs)  -- is-letter-requires
+    (λ c. search ors)  -- returns
+    (λ c κs. search needs)  -- within-requires
+    (λ c. search ors))  -- returns-2

@@ -1,3 +1,4 @@
+-- A number's byte is a name's byte or the apostrophe.
 use borrow.Author.Needs.{needs}
 use Rattle.chars.proofs.Laws.{ors}
 use Rattle.chars.specs.Ascii.{isNumberByte}
@@ -9,6 +10,6 @@ unfolding isNumberByte
 is-number-byte-spec =
     tie.close
     (tie.spec
-    (λ c κs. search needs)
-    (λ c. search ors)
-    (λ c. search ors))
+    (λ c κs. search needs)  -- is-name-byte-requires
+    (λ c. search ors)  -- returns
+    (λ c. search ors))  -- returns-2

@@ -1,3 +1,4 @@
+-- A digit of the radix, or the underscore between digits.
 use borrow.Author.Needs.{needs}
 use Rattle.chars.proofs.Laws.{ors}
 use Rattle.chars.specs.Ascii.{isSpacedDigit}
@@ -9,6 +10,6 @@ unfolding isSpacedDigit
 is-spaced-digit-spec =
     tie.close
     (tie.spec
-    (λ c κs. search needs)
-    (λ c. search ors)
-    (λ c. search ors))
+    (λ c κs. search needs)  -- is-digit-requires
+    (λ c. search ors)  -- returns
+    (λ c. search ors))  -- returns-2

@@ -22,11 +22,11 @@ run-end-spec =
     (tie.spec
     Inv-loop
     μ-loop
-    (λ c. search needs)
-    (λ c. search needs)
-    (λ c κs. search needs)
-    (λ c. search needs)
-    (λ c. search needs)
-    (λ c. search (needs, runs, not-false))
-    (λ c. search runs)
-    (λ c. search (needs, runs, not-true)))
+    (λ c. search needs)  -- loop-holds
+    (λ c. search needs)  -- shared-slice-read-in-class
+    (λ c κs. search needs)  -- in-class-requires
+    (λ c. search needs)  -- add-i
+    (λ c. search needs)  -- loop-less
+    (λ c. search (needs, runs, not-false))  -- loop-again
+    (λ c. search runs)  -- returns
+    (λ c. search (needs, runs, not-true)))  -- returns-2

@@ -20,12 +20,12 @@ same-spec =
     (tie.spec
     Inv-loop
     μ-loop
-    (λ c. search needs)
-    (λ c. search needs)
-    (λ c. search needs)
-    (λ c. search needs)
-    (λ c. search needs)
-    (λ c. search (needs, sames))
-    (λ c. search (needs, sames))
-    (λ c. search (needs, sames))
-    (λ c. search (needs, sames)))
+    (λ c. search needs)  -- loop-holds
+    (λ c. search needs)  -- shared-slice-read-if3
+    (λ c. search needs)  -- shared-slice-read-if3-2
+    (λ c. search needs)  -- add-i
+    (λ c. search needs)  -- loop-less
+    (λ c. search (needs, sames))  -- loop-again
+    (λ c. search (needs, sames))  -- returns
+    (λ c. search (needs, sames))  -- returns-2
+    (λ c. search (needs, sames)))  -- returns-3

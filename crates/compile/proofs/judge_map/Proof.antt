@@ -1,6 +1,5 @@
 -- The survey's answer decides on 18, 19 and 20, the pass over the log on 21.
 use borrow.Author.Needs.{needs}
-use native.Mathlib.Omega.{arith}
 use Rattle.compile.proofs.Stages.{shaped, map-low, survey-charts, survey-refuses, overlap-refuses, overlap-passes}
 use Rattle.compile.proofs.judge_map.Statement.{statement}
 use Rattle.compile.proofs.judge_map.Tie as tie
@@ -9,47 +8,63 @@ pub judge-map-spec : {M : Type 1} → statement M
 judge-map-spec =
     tie.close
     (tie.spec
-    (λ c κs. search needs)
+    (λ c κs. search needs)  -- fill-shapes-requires
     -- survey-requires
     (λ c κs.
-    let filled = c .before .before .before .before in
-    let begun = filled .before .before .before .before .before .before in
-    (shaped _ _ _ _ (begun .pre .0) _ (filled .fill-shapes .ensures), omega (arith, map-low _ _ _ _ (begun .pre .0))))
-    (λ c. search needs)
-    (λ c. search needs)
+    let at-fill-shapes = c .before .before .before .before in
+    let at-fill-shapes-arg = at-fill-shapes .before in
+    let at-shared-slice-known = at-fill-shapes-arg .before .before .before .before in
+    let at-start = at-shared-slice-known .before in
+    (shaped _ _ _ (at-start .pre .0) _ (at-fill-shapes .fill-shapes .ensures), map-low _ _ _ (at-start .pre .0)))
+    (λ c. search needs)  -- enum-known-number
+    (λ c. search needs)  -- enum-known-counts
     -- first-overlap-requires
     (λ c κs.
-    let told = c .before .before .before in
-    let walked = told .before .before .before .before in
-    let filled = walked .before .before .before .before .before in
-    let begun = filled .before .before .before .before .before .before in
-    survey-charts _ _ _ _ (begun .pre .0) (walked .survey .ensures .0) _ (walked .survey .ensures .1) (begun .pre .2) (told .count .given .1)
-    (shaped _ _ _ _ (begun .pre .0) _ (filled .fill-shapes .ensures)))
-    (λ c. search needs)
-    (λ c. search needs)
-    (λ c. search needs)
-    (λ c. search needs)
-    -- a fault by 18, 19 or 20
+    let at-counts = c .before .before .before in
+    let at-survey = at-counts .before .before .before .before in
+    let at-shapes = at-survey .before .before .before .before in
+    let at-fill-shapes = at-shapes .before in
+    let at-fill-shapes-arg = at-fill-shapes .before in
+    let at-shared-slice-known = at-fill-shapes-arg .before .before .before .before in
+    let at-start = at-shared-slice-known .before in
+    survey-charts _ _ _ (at-start .pre .0) (at-survey .survey .ensures .0) _ (at-survey .survey .ensures .1) (at-start .pre .2) (at-counts .counts .given .1) (shaped _ _ _ (at-start .pre .0) _ (at-fill-shapes .fill-shapes .ensures)))
+    (λ c. search needs)  -- enum-known-number-2
+    (λ c. search needs)  -- enum-told
+    (λ c. search needs)  -- same-length
+    (λ c. search needs)  -- same-length-2
+    -- returns
     (λ c.
-    let walked = c .before .before .before .before .before in
-    let begun = walked .before .before .before .before .before .before .before .before .before .before .before in
-    survey-refuses _ _ _ _ (begun .pre .0) (walked .survey .ensures .0) (c .before .number .given .1))
-    (λ c. search needs)
-    (λ c. search needs)
-    -- 21
+    let at-number = c .before in
+    let at-survey = at-number .before .before .before .before in
+    let at-shapes = at-survey .before .before .before .before in
+    let at-fill-shapes-arg = at-shapes .before .before in
+    let at-shared-slice-known = at-fill-shapes-arg .before .before .before .before in
+    let at-start = at-shared-slice-known .before in
+    survey-refuses _ _ _ (at-start .pre .0) (at-survey .survey .ensures .0) (at-number .number .given .1))
+    (λ c. search needs)  -- same-length-3
+    (λ c. search needs)  -- same-length-4
+    -- returns-2
     (λ c.
-    let told = c .before .before .before .before .before .before .before in
-    let walked = told .before .before .before .before in
-    let begun = walked .before .before .before .before .before .before .before .before .before .before .before in
-    overlap-refuses _ _ _ _ (begun .pre .0) (walked .survey .ensures .0) _ (walked .survey .ensures .1) (begun .pre .2) (told .count .given .1)
-    (c .before .before .before .first-overlap .ensures) (c .before .number2 .given .1))
-    (λ c. search needs)
-    (λ c. search needs)
-    -- no fault
+    let at-number2 = c .before in
+    let at-first-overlap = at-number2 .before .before in
+    let at-counts = at-first-overlap .before .before .before .before in
+    let at-survey = at-counts .before .before .before .before in
+    let at-shapes = at-survey .before .before .before .before in
+    let at-fill-shapes-arg = at-shapes .before .before in
+    let at-shared-slice-known = at-fill-shapes-arg .before .before .before .before in
+    let at-start = at-shared-slice-known .before in
+    overlap-refuses _ _ _ (at-start .pre .0) (at-survey .survey .ensures .0) _ (at-survey .survey .ensures .1) (at-start .pre .2) (at-counts .counts .given .1) (at-first-overlap .first-overlap .ensures) (at-number2 .number2 .given .1))
+    (λ c. search needs)  -- same-length-5
+    (λ c. search needs)  -- same-length-6
+    -- returns-3
     (λ c.
-    let told = c .before .before .before .before .before .before in
-    let walked = told .before .before .before .before in
-    let filled = walked .before .before .before .before .before in
-    let begun = filled .before .before .before .before .before .before in
-    overlap-passes _ _ _ _ (begun .pre .0) (walked .survey .ensures .0) _ (walked .survey .ensures .1) (begun .pre .2) (told .count .given .1)
-    (c .before .before .first-overlap .ensures) (c .enum-told .given .1) (shaped _ _ _ _ (begun .pre .0) _ (filled .fill-shapes .ensures))))
+    let at-first-overlap = c .before .before in
+    let at-counts = at-first-overlap .before .before .before .before in
+    let at-survey = at-counts .before .before .before .before in
+    let at-shapes = at-survey .before .before .before .before in
+    let at-fill-shapes = at-shapes .before in
+    let at-fill-shapes-arg = at-fill-shapes .before in
+    let at-shared-slice-known = at-fill-shapes-arg .before .before .before .before in
+    let at-start = at-shared-slice-known .before in
+    overlap-passes _ _ _ (at-start .pre .0) (at-survey .survey .ensures .0) _ (at-survey .survey .ensures .1) (at-start .pre .2) (at-counts .counts .given .1) (at-first-overlap .first-overlap .ensures) (c .enum-told .given .1)
+    (shaped _ _ _ (at-start .pre .0) _ (at-fill-shapes .fill-shapes .ensures))))

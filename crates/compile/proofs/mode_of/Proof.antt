@@ -1,5 +1,5 @@
+-- The addressing is the address map's own, or the standard.
 use borrow.Author.Needs.{needs}
-use native.Mathlib.Omega.{arith}
 use Rattle.compile.proofs.Stages.{mode-addressed}
 use Rattle.compile.proofs.mode_of.Statement.{statement}
 use Rattle.compile.proofs.mode_of.Tie as tie
@@ -8,13 +8,13 @@ pub mode-of-spec : {M : Type 1} → statement M
 mode-of-spec =
     tie.close
     (tie.spec
-    (λ c κs. search needs)
-    (λ c. search needs)
-    (λ c. search needs)
-    (λ c. search needs)
-    (λ c. search needs)
-    (λ c κs. search needs)
-    (λ c. search needs)
-    (λ c. search needs)
-    (λ c. search needs)
-    (λ c. search (needs, mode-addressed)))
+    (λ c κs. search needs)  -- mode-code-requires
+    (λ c. search needs)  -- enum-told
+    (λ c. search needs)  -- enum-told-2
+    (λ c. search needs)  -- enum-told-3
+    (λ c. search needs)  -- enum-known-component
+    (λ c κs. search needs)  -- or-else-requires
+    (λ c. search needs)  -- returns
+    (λ c. search needs)  -- returns-2
+    (λ c. search needs)  -- returns-3
+    (λ c. search (needs, mode-addressed)))  -- returns-4

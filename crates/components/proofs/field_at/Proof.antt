@@ -1,3 +1,4 @@
+-- The field has the bits from low to high and its own reset.
 use borrow.Author.Needs.{needs}
 use Rattle.components.specs.Fields.{fieldAt}
 use Rattle.components.proofs.field_at.Statement.{statement}
@@ -8,7 +9,7 @@ unfolding fieldAt
 field-at-spec =
     tie.close
     (tie.spec
-    (λ c κs. search needs)
-    (λ c κs. search needs)
-    (λ c κs. search needs)
-    (λ c. rw (c .before .before .own-reset .ensures, c .before .low-bit .ensures, c .high-bit .ensures)))
+    (λ c κs. search needs)  -- own-reset-requires
+    (λ c κs. search needs)  -- low-bit-requires
+    (λ c κs. search needs)  -- high-bit-requires
+    (λ c. rw (c .before .before .own-reset .ensures, c .before .low-bit .ensures, c .high-bit .ensures)))  -- returns

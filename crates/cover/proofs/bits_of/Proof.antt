@@ -1,3 +1,4 @@
+-- All bits up to the highest, less those below the lowest, are the number with exactly the field's bits.
 use native.Mathlib.Omega.{arith}
 use borrow.Author.Needs.{needs}
 use Rattle.cover.specs.Covers.{hasBit}
@@ -10,9 +11,9 @@ unfolding hasBit
 bits-of-spec =
     tie.close
     (tie.spec
-    (λ c. let w = narrow-within _ (c .before .pre) in omega arith)
-    (λ c. search needs)
-    (λ c. let w = narrow-within _ (c .before .before .pre) in omega arith)
-    (λ c. let w = narrow-within _ (c .before .before .pre) in mask-one _ _ (w .0) (w .1))
-    (λ c. let w = narrow-within _ (c .before .before .pre) in mask-less _ _ (w .0) (w .1))
-    (λ c. let w = narrow-within _ (c .before .before .pre) in mask-is _ _ (w .0) (w .1)))
+    (λ c. let w = narrow-within _ (c .before .pre) in omega arith)  -- sub-to-high
+    (λ c. search needs)  -- shr-to-high
+    (λ c. let w = narrow-within _ (c .before .before .pre) in omega arith)  -- shl-below-low
+    (λ c. let w = narrow-within _ (c .before .before .pre) in mask-one _ _ (w .0) (w .1))  -- sub-below-low
+    (λ c. let w = narrow-within _ (c .before .before .pre) in mask-less _ _ (w .0) (w .1))  -- sub-result
+    (λ c. let w = narrow-within _ (c .before .before .pre) in mask-is _ _ (w .0) (w .1)))  -- returns

@@ -1,3 +1,4 @@
+-- The field's access picks which of the three words is closed to it.
 use borrow.Author.Needs.{needs}
 use Rattle.cover.proofs.Laws.{to-readers, to-writers, to-others}
 use Rattle.cover.proofs.closed_to.Statement.{statement}
@@ -7,8 +8,8 @@ pub closed-to-spec : {M : Type 1} → statement M
 closed-to-spec =
     tie.close
     (tie.spec
-    (λ c κs. search needs)
-    (λ c. search to-readers)
-    (λ c κs. search needs)
-    (λ c. search to-writers)
-    (λ c. search to-others))
+    (λ c κs. search needs)  -- access-code-requires
+    (λ c. search to-readers)  -- returns
+    (λ c κs. search needs)  -- access-code-requires-2
+    (λ c. search to-writers)  -- returns-2
+    (λ c. search to-others))  -- returns-3

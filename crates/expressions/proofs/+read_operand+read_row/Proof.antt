@@ -75,8 +75,24 @@ pub +read-operand+read-row-spec : {M : Type 1} → statement M
     (λ c. search needs)  -- enum-told-3
     (λ c. search needs)  -- enum-told-4
     (λ c. search operand-literal)  -- returns-2
-    (λ c. operand-close _ _ (c .before .before .before .before .before .before .before .before .before .next-token .ensures) (c .before .before .before .before .before .before .before .before .part-of .ensures) (c .before .before .before .before .before .before .enum-told .given .1) (c .before .before .before .before .before .if1 .left) (c .before .before .before .before .read-row .ensures) (c .before .before .number .given .1) (c .close .ensures))  -- returns-3
-    (λ c. operand-stop _ _ (c .before .before .before .before .before .before .before .before .next-token .ensures) (c .before .before .before .before .before .before .before .part-of .ensures) (c .before .before .before .before .before .enum-told .given .1) (c .before .before .before .before .if1 .left) (c .before .before .before .read-row .ensures) (c .before .number2 .given .1))  -- returns-4
+    -- returns-3
+    (λ c.
+    let at-number = c .before .before in
+    let at-read-row = at-number .before .before in
+    let at-if1 = at-read-row .before in
+    let at-enum-told = at-if1 .before in
+    let at-part-of = at-enum-told .before .before in
+    let at-next-token = at-part-of .before in
+    operand-close _ _ (at-next-token .next-token .ensures) (at-part-of .part-of .ensures) (at-enum-told .enum-told .given .1) (at-if1 .if1 .left) (at-read-row .read-row .ensures) (at-number .number .given .1) (c .close .ensures))
+    -- returns-4
+    (λ c.
+    let at-number2 = c .before in
+    let at-read-row = at-number2 .before .before in
+    let at-if1 = at-read-row .before in
+    let at-enum-told = at-if1 .before in
+    let at-part-of = at-enum-told .before .before in
+    let at-next-token = at-part-of .before in
+    operand-stop _ _ (at-next-token .next-token .ensures) (at-part-of .part-of .ensures) (at-enum-told .enum-told .given .1) (at-if1 .if1 .left) (at-read-row .read-row .ensures) (at-number2 .number2 .given .1))
     (λ c. search operand-closing)  -- returns-5
     (λ c. search operand-operator)  -- returns-6
     (λ c. search operand-other))  -- returns-7
@@ -87,19 +103,63 @@ pub +read-operand+read-row-spec : {M : Type 1} → statement M
     (λ c κs. (omega arith, tt))  -- read-row-requires
     (λ c. search needs)  -- enum-known-number
     (λ c. search needs)  -- enum-known-first
-    (λ c. row-begin _ _ _ (c .before .before .before .before .if1 .left) _ (c .before .before .before .read-row .ensures) (c .before .first .given .1))  -- loop-holds
+    -- loop-holds
+    (λ c. row-begin _ _ _ (c .before .before .before .before .if1 .left) _ (c .before .before .before .read-row .ensures) (c .before .first .given .1))
     (λ c κs. search needs)  -- next-token-requires
     (λ c κs. search needs)  -- part-of-requires
     (λ c κs. search needs)  -- operator-in-requires
     (λ c. search needs)  -- enum-told
-    (λ c. join-done _ _ _ (c .before .before .before .before .before .before .before .before .before .before .if1 .left) _ (c .before .before .before .before .before .loop .inv) (c .before .before .before .before .next-token .ensures) (c .before .before .before .part-of .ensures) (c .before .before .operator-in .ensures) (c .enum-told .given .1))  -- returns-2
+    -- returns-2
+    (λ c.
+    let at-operator-in = c .before .before in
+    let at-part-of = at-operator-in .before in
+    let at-next-token = at-part-of .before in
+    let at-loop = at-next-token .before in
+    let at-read-row = at-loop .before .before .before .before in
+    let at-if1 = at-read-row .before in
+    join-done _ _ _ (at-if1 .if1 .left) _ (at-loop .loop .inv) (at-next-token .next-token .ensures) (at-part-of .part-of .ensures) (at-operator-in .operator-in .ensures) (c .enum-told .given .1))
     (λ c. search needs)  -- enum-known-operator
     (λ c. search needs)  -- sub-read-row-2
     (λ c κs. (omega arith, tt))  -- read-row-requires-2
     (λ c. search needs)  -- enum-known-number-2
-    (λ c. join-stop _ _ _ (c .before .before .before .before .before .before .before .before .before .before .before .before .before .before .before .if1 .left) _ (c .before .before .before .before .before .before .before .before .before .before .loop .inv) (c .before .before .before .before .before .before .before .before .before .next-token .ensures) (c .before .before .before .before .before .before .before .before .part-of .ensures) (c .before .before .before .before .before .before .before .operator-in .ensures) (c .before .before .before .before .before .operator .given .1) (c .before .before .before .read-row2 .ensures) (c .before .number2 .given .1))  -- returns-3
+    -- returns-3
+    (λ c.
+    let at-number2 = c .before in
+    let at-read-row2 = at-number2 .before .before in
+    let at-operator = at-read-row2 .before .before in
+    let at-operator-in = at-operator .before .before in
+    let at-part-of = at-operator-in .before in
+    let at-next-token = at-part-of .before in
+    let at-loop = at-next-token .before in
+    let at-read-row = at-loop .before .before .before .before in
+    let at-if1 = at-read-row .before in
+    join-stop _ _ _ (at-if1 .if1 .left) _ (at-loop .loop .inv) (at-next-token .next-token .ensures) (at-part-of .part-of .ensures) (at-operator-in .operator-in .ensures) (at-operator .operator .given .1) (at-read-row2 .read-row2 .ensures) (at-number2 .number2 .given .1))
     (λ c. search needs)  -- enum-known-right
     (λ c κs. search needs)  -- combine-requires
-    (λ c. let p = join-past _ _ _ (c .before .before .before .before .before .before .before .before .before .before .before .before .before .before .before .before .if1 .left) _ (c .before .before .before .before .before .before .before .before .before .before .before .loop .inv) (c .before .before .before .before .before .before .before .before .before .before .next-token .ensures) (c .before .before .before .before .before .before .before .before .before .part-of .ensures) (c .before .before .before .before .before .before .before .before .operator-in .ensures) (c .before .before .before .before .before .before .operator .given .1) (c .before .before .before .before .read-row2 .ensures) (c .before .before .right .given .1) in omega (arith, p .0, p .1))  -- loop-less
-    (λ c. join-more _ _ _ (c .before .before .before .before .before .before .before .before .before .before .before .before .before .before .before .before .if1 .left) _ (c .before .before .before .before .before .before .before .before .before .before .before .loop .inv) (c .before .before .before .before .before .before .before .before .before .before .next-token .ensures) (c .before .before .before .before .before .before .before .before .before .part-of .ensures) (c .before .before .before .before .before .before .before .before .operator-in .ensures) (c .before .before .before .before .before .before .operator .given .1) (c .before .before .before .before .read-row2 .ensures) (c .before .before .right .given .1) (c .combine .ensures))  -- loop-again
-    (λ c. row-stop _ _ _ (c .before .before .before .before .if1 .left) _ (c .before .before .before .read-row .ensures) (c .before .number .given .1))  -- returns-4
+    -- loop-less
+    (λ c.
+    let at-right = c .before .before in
+    let at-read-row2 = at-right .before .before in
+    let at-operator = at-read-row2 .before .before in
+    let at-operator-in = at-operator .before .before in
+    let at-part-of = at-operator-in .before in
+    let at-next-token = at-part-of .before in
+    let at-loop = at-next-token .before in
+    let at-read-row = at-loop .before .before .before .before in
+    let at-if1 = at-read-row .before in
+    let p = join-past _ _ _ (at-if1 .if1 .left) _ (at-loop .loop .inv) (at-next-token .next-token .ensures) (at-part-of .part-of .ensures) (at-operator-in .operator-in .ensures) (at-operator .operator .given .1) (at-read-row2 .read-row2 .ensures) (at-right .right .given .1) in
+    omega (arith, p .0, p .1))
+    -- loop-again
+    (λ c.
+    let at-right = c .before .before in
+    let at-read-row2 = at-right .before .before in
+    let at-operator = at-read-row2 .before .before in
+    let at-operator-in = at-operator .before .before in
+    let at-part-of = at-operator-in .before in
+    let at-next-token = at-part-of .before in
+    let at-loop = at-next-token .before in
+    let at-read-row = at-loop .before .before .before .before in
+    let at-if1 = at-read-row .before in
+    join-more _ _ _ (at-if1 .if1 .left) _ (at-loop .loop .inv) (at-next-token .next-token .ensures) (at-part-of .part-of .ensures) (at-operator-in .operator-in .ensures) (at-operator .operator .given .1) (at-read-row2 .read-row2 .ensures) (at-right .right .given .1) (c .combine .ensures))
+    -- returns-4
+    (λ c. row-stop _ _ _ (c .before .before .before .before .if1 .left) _ (c .before .before .before .read-row .ensures) (c .before .number .given .1))

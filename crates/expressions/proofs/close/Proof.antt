@@ -1,3 +1,4 @@
+-- Behind a number the closing parenthesis is read, or the word there is refused; the number's place is the opening one's.
 use borrow.Author.Needs.{needs}
 use borrow.Author.Tests.{not-true, not-false}
 use Rattle.expressions.proofs.Laws.{closed-yes, closed-no}
@@ -8,8 +9,8 @@ pub close-spec : {M : Type 1} → statement M
 close-spec =
     tie.close
     (tie.spec
-    (λ c κs. search needs)
-    (λ c κs. search needs)
-    (λ c κs. search needs)
-    (λ c. search (closed-no, not-true))
-    (λ c. search (closed-yes, not-false)))
+    (λ c κs. search needs)  -- next-token-requires
+    (λ c κs. search needs)  -- part-of-requires
+    (λ c κs. search needs)  -- is-close-requires
+    (λ c. search (closed-no, not-true))  -- returns
+    (λ c. search (closed-yes, not-false)))  -- returns-2

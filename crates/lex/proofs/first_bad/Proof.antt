@@ -32,10 +32,10 @@ first-bad-spec =
     Inv-loop
     μ-loop
     loop-holds
-    (λ c κs. search needs)
-    (λ c κs. search needs)
-    (λ c. search needs)
-    (λ c. search (needs, left-stop))
-    (λ c. search needs)
+    (λ c κs. search needs)  -- next-token-requires
+    (λ c κs. search needs)  -- judge-requires
+    (λ c. search needs)  -- enum-known-verdict
+    (λ c. search (needs, left-stop))  -- returns
+    (λ c. search needs)  -- enum-told
     loop-less
-    (λ c. search (needs, left-more)))
+    (λ c. search (needs, left-more)))  -- loop-again

@@ -20,12 +20,12 @@ string-close-spec =
     (tie.spec
     Inv-loop
     μ-loop
-    (λ c. search needs)
-    (λ c. search needs)
-    (λ c. search needs)
-    (λ c κs. search needs)
-    (λ c. search needs)
-    (λ c. search needs)
-    (λ c. search (needs, closings))
-    (λ c. search (needs, closings))
-    (λ c. search (needs, closings)))
+    (λ c. search needs)  -- add-i
+    (λ c. search needs)  -- loop-holds
+    (λ c. search needs)  -- shared-slice-read-b
+    (λ c κs. search needs)  -- closes-string-requires
+    (λ c. search needs)  -- add-i-2
+    (λ c. search needs)  -- loop-less
+    (λ c. search (needs, closings))  -- loop-again
+    (λ c. search (needs, closings))  -- returns
+    (λ c. search (needs, closings)))  -- returns-2

@@ -1,8 +1,8 @@
+-- A string ends behind its closing quote, is refused where it is too long, and is left open where no quote closes it.
 use borrow.Author.Needs.{needs}
 use Rattle.lex.proofs.Bounds.{quote-after, quote-before}
 use Rattle.lex.proofs.Tokens.{string-long, string-short, string-open}
 use native.Mathlib.Omega.{arith}
-use lib.ListN.{length}
 use Rattle.lex.proofs.string_token.Statement.{statement}
 use Rattle.lex.proofs.string_token.Tie as tie
 
@@ -10,13 +10,25 @@ pub string-token-spec : {M : Type 1} → statement M
 string-token-spec =
     tie.close
     (tie.spec
-    (λ c κs. search needs)
-    (λ c. search needs)
-    (λ c. search needs)
-    (λ c. search quote-after)
-    (λ c. let h = quote-before _ _ (c .before .before .before .before .string-close .ensures) (c .before .before .q .given .1) (c .before .before .before .before .before .before .pre) in omega arith)
-    (λ c. search string-long)
-    (λ c. let h = quote-before _ _ (c .before .before .before .before .string-close .ensures) (c .before .before .q .given .1) (c .before .before .before .before .before .before .pre) in omega arith)
-    (λ c. search needs)
-    (λ c. search string-short)
-    (λ c. search string-open))
+    (λ c κs. search needs)  -- string-close-requires
+    (λ c. search needs)  -- enum-known-q
+    (λ c. search needs)  -- add-if1
+    (λ c. search quote-after)  -- sub-if1
+    -- add-t11
+    (λ c.
+    let at-q = c .before .before in
+    let at-string-close = at-q .before .before in
+    let at-start = at-string-close .before .before in
+    let h = quote-before _ _ (at-string-close .string-close .ensures) (at-q .q .given .1) (at-start .pre) in
+    omega arith)
+    (λ c. search string-long)  -- returns
+    -- add-t6
+    (λ c.
+    let at-q = c .before .before in
+    let at-string-close = at-q .before .before in
+    let at-start = at-string-close .before .before in
+    let h = quote-before _ _ (at-string-close .string-close .ensures) (at-q .q .given .1) (at-start .pre) in
+    omega arith)
+    (λ c. search needs)  -- enum-told
+    (λ c. search string-short)  -- returns-2
+    (λ c. search string-open))  -- returns-3

@@ -1,4 +1,4 @@
--- The digits left fall with each call.
+-- The digits above are poured first, then the last one; there are fewer left with each call.
 use borrow.Author.Needs.{needs}
 use native.Mathlib.Omega.{arith}
 use Prim.Native.Nat.{ℕ, _<_}

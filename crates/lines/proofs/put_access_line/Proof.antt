@@ -1,3 +1,4 @@
+-- Key, access word and line end, poured one after another, are the line.
 use borrow.Author.Needs.{needs}
 use Rattle.lines.proofs.Lines.{line-pours}
 use Rattle.lines.proofs.put_access_line.Statement.{statement}
@@ -7,8 +8,8 @@ pub put-access-line-spec : {M : Type 1} → statement M
 put-access-line-spec =
     tie.close
     (tie.spec
-    (λ c κs. search needs)
-    (λ c κs. search needs)
-    (λ c κs. search needs)
-    (λ c. search needs)
-    (λ c. search line-pours))
+    (λ c κs. search needs)  -- put-bytes-requires
+    (λ c κs. search needs)  -- put-access-requires
+    (λ c κs. search needs)  -- put-line-end-requires
+    (λ c. search needs)  -- same-length
+    (λ c. search line-pours))  -- returns

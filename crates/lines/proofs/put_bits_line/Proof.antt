@@ -1,3 +1,4 @@
+-- Key, highest bit, colon, lowest bit and line end, poured one after another, are the line `bits=`.
 use borrow.Author.Needs.{needs}
 use Rattle.lines.proofs.Lines.{line-pours, bits-pours}
 use Rattle.lines.proofs.put_bits_line.Statement.{statement}
@@ -7,18 +8,20 @@ pub put-bits-line-spec : {M : Type 1} → statement M
 put-bits-line-spec =
     tie.close
     (tie.spec
-    (λ c. search needs)
-    (λ c κs. search needs)
-    (λ c κs. search needs)
-    (λ c. search needs)
-    (λ c κs. search needs)
-    (λ c κs. search needs)
-    (λ c κs. search needs)
-    (λ c. search needs)
+    (λ c. search needs)  -- slice-aggregate-put-bytes
+    (λ c κs. search needs)  -- put-bytes-requires
+    (λ c κs. search needs)  -- put-decimal-requires
+    (λ c. search needs)  -- slice-aggregate-put-bytes-2
+    (λ c κs. search needs)  -- put-bytes-requires-2
+    (λ c κs. search needs)  -- put-decimal-requires-2
+    (λ c κs. search needs)  -- put-line-end-requires
+    (λ c. search needs)  -- same-length
+    -- returns
     (λ c.
-    let p5 = c .before .before in
-    let p4 = p5 .before .before .before .before in
-    let p3 = p4 .before .before .before .before in
-    let p2 = p3 .before .before .before .before .before in
-    let p1 = p2 .before .before .before .before in
-    line-pours _ _ (p1 .put-bytes .ensures) (bits-pours _ (p2 .put-decimal .ensures) (p3 .put-bytes2 .ensures) (p4 .put-decimal2 .ensures)) (p5 .put-line-end .ensures)))
+    let at-put-line-end = c .before .before in
+    let at-put-decimal2 = at-put-line-end .before .before .before .before in
+    let at-put-bytes2 = at-put-decimal2 .before .before .before .before in
+    let at-out2 = at-put-bytes2 .before .before .before .before in
+    let at-put-decimal = at-out2 .before in
+    let at-put-bytes = at-put-decimal .before .before .before .before in
+    line-pours _ _ (at-put-bytes .put-bytes .ensures) (bits-pours _ (at-put-decimal .put-decimal .ensures) (at-put-bytes2 .put-bytes2 .ensures) (at-put-decimal2 .put-decimal2 .ensures)) (at-put-line-end .put-line-end .ensures)))

@@ -1,3 +1,4 @@
+-- A full sink stays full; past the room it becomes full; else the byte is in the output, if it reaches so far.
 use borrow.Author.Needs.{needs}
 use mathlib.Core.Path.{_≡_, sym, ap, _∙_}
 use mathlib.Core.Logic.{⊎-elim}
@@ -17,9 +18,9 @@ pub put-byte-spec : {M : Type 1} → statement M
 put-byte-spec =
     tie.close
     (tie.spec
-    (λ c. byte-full _ _ _ _ (c .if1 .taken))
-    (λ c. byte-over _ _ _ _ (c .before .before .if1 .left) (c .if2 .taken))
-    (λ c. search needs)
-    (λ c. search needs)
-    (λ c. ap length (stored c) ∙ simp length-set)
-    (λ c. byte-fits _ _ _ _ (c .before .before .before .if1 .left) (c .before .if2 .left) (stored c)))
+    (λ c. byte-full _ _ _ _ (c .if1 .taken))  -- returns
+    (λ c. byte-over _ _ _ _ (c .before .before .if1 .left) (c .if2 .taken))  -- returns-2
+    (λ c. search needs)  -- slice-write-out
+    (λ c. search needs)  -- add-t7
+    (λ c. ap length (stored c) ∙ simp length-set)  -- same-length
+    (λ c. byte-fits _ _ _ _ (c .before .before .before .if1 .left) (c .before .if2 .left) (stored c)))  -- returns-3

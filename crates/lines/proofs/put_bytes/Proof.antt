@@ -20,11 +20,11 @@ put-bytes-spec =
     (tie.spec
     Inv-loop
     μ-loop
-    (λ c. search (needs, bytes-start))
-    (λ c. search needs)
-    (λ c κs. search needs)
-    (λ c. search needs)
-    (λ c. search needs)
-    (λ c. search (needs, bytes-on))
-    (λ c. search needs)
-    (λ c. search (needs, bytes-end)))
+    (λ c. search (needs, bytes-start))  -- loop-holds
+    (λ c. search needs)  -- shared-slice-read-put-byte
+    (λ c κs. search needs)  -- put-byte-requires
+    (λ c. search needs)  -- add-i
+    (λ c. search needs)  -- loop-less
+    (λ c. search (needs, bytes-on))  -- loop-again
+    (λ c. search needs)  -- same-length
+    (λ c. search (needs, bytes-end)))  -- returns

@@ -1,3 +1,4 @@
+-- The code decides between no effect, the effects of a 1 and the others.
 use borrow.Author.Needs.{needs}
 use Rattle.lines.proofs.Words.{write-none, write-one, write-zero}
 use Rattle.lines.proofs.put_write_effect.Statement.{statement}
@@ -7,13 +8,13 @@ pub put-write-effect-spec : {M : Type 1} → statement M
 put-write-effect-spec =
     tie.close
     (tie.spec
-    (λ c. search needs)
-    (λ c κs. search needs)
-    (λ c. search needs)
-    (λ c. search write-none)
-    (λ c κs. search needs)
-    (λ c. search needs)
-    (λ c. search write-one)
-    (λ c κs. search needs)
-    (λ c. search needs)
-    (λ c. search write-zero))
+    (λ c. search needs)  -- slice-aggregate-put-bytes
+    (λ c κs. search needs)  -- put-bytes-requires
+    (λ c. search needs)  -- same-length
+    (λ c. search write-none)  -- returns
+    (λ c κs. search needs)  -- put-on-one-requires
+    (λ c. search needs)  -- same-length-2
+    (λ c. search write-one)  -- returns-2
+    (λ c κs. search needs)  -- put-on-zero-requires
+    (λ c. search needs)  -- same-length-3
+    (λ c. search write-zero))  -- returns-3

@@ -1,3 +1,4 @@
+-- Unlawful rows are refused by 24; a dry run finds a short output, 22; else the output has the listing and its old rest.
 use borrow.Author.Needs.{needs}
 use mathlib.Core.Path.{refl}
 use Rattle.listing.proofs.Answers.{listed-numbers, list-unlawful, list-bounds, list-long, list-written}
@@ -8,17 +9,28 @@ pub list-spec : {M : Type 1} → statement M
 list-spec =
     tie.close
     (tie.spec
-    (λ c κs. search needs)
+    (λ c κs. search needs)  -- are-lawful-requires
+    -- returns
     (λ c.
     let e = list-unlawful _ (c .before .are-lawful .ensures) _ (c .if1 .taken) in
     (e, (listed-numbers _ _ e, refl)))
-    (λ c. search needs)
-    (λ c κs. list-bounds _ (c .before .before .are-lawful .ensures) (c .before .if1 .left))
+    (λ c. search needs)  -- slice-aggregate-put-map
+    (λ c κs. list-bounds _ (c .before .before .are-lawful .ensures) (c .before .if1 .left))  -- put-map-requires
+    -- returns-2
     (λ c.
-    let e = list-long _ (c .before .before .before .before .before .are-lawful .ensures) (c .before .before .before .before .if1 .left) (c .before .before .put-map .ensures) (c .if2 .taken) in
+    let at-put-map = c .before .before in
+    let at-if1 = at-put-map .before .before in
+    let at-are-lawful = at-if1 .before in
+    let e = list-long _ (at-are-lawful .are-lawful .ensures) (at-if1 .if1 .left) (at-put-map .put-map .ensures) (c .if2 .taken) in
     (e, (listed-numbers _ _ e, refl)))
-    (λ c κs. list-bounds _ (c .before .before .before .before .before .before .are-lawful .ensures) (c .before .before .before .before .before .if1 .left))
-    (λ c. search needs)
+    -- put-map-requires-2
+    (λ c κs.
+    let at-put-map = c .before .before .before in
+    let at-if1 = at-put-map .before .before in
+    let at-are-lawful = at-if1 .before in
+    list-bounds _ (at-are-lawful .are-lawful .ensures) (at-if1 .if1 .left))
+    (λ c. search needs)  -- same-length
+    -- returns-3
     (λ c.
     let p4 = c .before .before in
     let p3 = p4 .before .before in

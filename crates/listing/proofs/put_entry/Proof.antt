@@ -1,3 +1,4 @@
+-- The head's lines and then the lines of the row's run of fields are the register's entry.
 use borrow.Author.Needs.{needs}
 use Rattle.listing.proofs.Bounds.{run-fits}
 use Rattle.listing.proofs.Lines.{entry-pours}
@@ -8,10 +9,11 @@ pub put-entry-spec : {M : Type 1} → statement M
 put-entry-spec =
     tie.close
     (tie.spec
-    (λ c κs. search needs)
-    (λ c κs. search needs)
-    (λ c κs. search (needs, run-fits))
-    (λ c. search needs)
+    (λ c κs. search needs)  -- register-row-requires
+    (λ c κs. search needs)  -- put-head-lines-requires
+    (λ c κs. search (needs, run-fits))  -- put-fields-requires
+    (λ c. search needs)  -- same-length
+    -- returns
     (λ c.
     let p2 = c .before .before in
     let p1 = p2 .before .before .before .before in

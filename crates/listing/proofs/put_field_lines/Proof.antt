@@ -1,3 +1,4 @@
+-- The lines of name, bits and values, poured one after another, are a field's.
 use borrow.Author.Needs.{needs}
 use Rattle.listing.proofs.Lines.{field-pours}
 use Rattle.listing.proofs.put_field_lines.Statement.{statement}
@@ -7,13 +8,14 @@ pub put-field-lines-spec : {M : Type 1} → statement M
 put-field-lines-spec =
     tie.close
     (tie.spec
-    (λ c κs. search needs)
-    (λ c. search needs)
-    (λ c. search needs)
-    (λ c κs. search needs)
-    (λ c κs. search needs)
-    (λ c κs. search needs)
-    (λ c. search needs)
+    (λ c κs. search needs)  -- field-row-requires
+    (λ c. search needs)  -- slice-aggregate-put-name-line
+    (λ c. search needs)  -- mul-put-name-line
+    (λ c κs. search needs)  -- put-name-line-requires
+    (λ c κs. search needs)  -- put-bits-line-requires
+    (λ c κs. search needs)  -- put-value-lines-requires
+    (λ c. search needs)  -- same-length
+    -- returns
     (λ c.
     let p3 = c .before .before in
     let p2 = p3 .before .before .before .before in

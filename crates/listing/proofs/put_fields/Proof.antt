@@ -22,11 +22,11 @@ put-fields-spec =
     (tie.spec
     Inv-loop
     μ-loop
-    (λ c. search (needs, fields-start))
-    (λ c. search needs)
-    (λ c κs. search needs)
-    (λ c. search needs)
-    (λ c. search needs)
-    (λ c. search (needs, fields-on))
-    (λ c. search needs)
-    (λ c. search (needs, fields-end)))
+    (λ c. search (needs, fields-start))  -- loop-holds
+    (λ c. search needs)  -- add-put-field-lines
+    (λ c κs. search needs)  -- put-field-lines-requires
+    (λ c. search needs)  -- add-k
+    (λ c. search needs)  -- loop-less
+    (λ c. search (needs, fields-on))  -- loop-again
+    (λ c. search needs)  -- same-length
+    (λ c. search (needs, fields-end)))  -- returns

@@ -24,12 +24,19 @@ put-map-spec =
     (tie.spec
     Inv-loop
     μ-loop
-    (λ c. search needs)
-    (λ c κs. search needs)
-    (λ c. search (needs, entries-start))
-    (λ c κs. (search needs, c .before .before .before .before .before .before .before .before .before .before .before .before .before .pre .each _ (c .before .loop-test .taken)))
-    (λ c. search needs)
-    (λ c. search needs)
-    (λ c. search (needs, entries-on))
-    (λ c. search needs)
+    (λ c. search needs)  -- slice-aggregate-put-name-line
+    (λ c κs. search needs)  -- put-name-line-requires
+    (λ c. search (needs, entries-start))  -- loop-holds
+    -- put-entry-requires
+    (λ c κs.
+    let at-loop-test = c .before in
+    let at-put-name-line = at-loop-test .before .before .before .before in
+    let at-shared-slice-known3 = at-put-name-line .before .before .before .before in
+    let at-start = at-shared-slice-known3 .before .before .before .before in
+    (search needs, at-start .pre .each _ (at-loop-test .loop-test .taken)))
+    (λ c. search needs)  -- add-i
+    (λ c. search needs)  -- loop-less
+    (λ c. search (needs, entries-on))  -- loop-again
+    (λ c. search needs)  -- same-length
+    -- returns
     (λ c. map-pours _ (c .before .before .before .before .put-name-line .ensures) (entries-end _ _ _ _ (c .before .loop .inv .0) (c .loop-test .left))))

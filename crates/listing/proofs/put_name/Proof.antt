@@ -3,6 +3,7 @@ use borrow.Author.Needs.{needs}
 use Prim.Native.Nat.{_+_, _-_, _≤_}
 use mathlib.Core.Path.{_≡_}
 use lib.ListN.{length}
+use Rattle.basics.specs.Limits.{nameWidth}
 use Rattle.lines.proofs.Pouring.{Pouring}
 use Rattle.rows.specs.Reading.{nameFrom, nameAt}
 use Rattle.listing.proofs.Loops.{name-start, name-on, name-stop, name-end}
@@ -10,10 +11,10 @@ use Rattle.listing.proofs.put_name.Statement.{statement}
 use Rattle.listing.proofs.put_name.Tie as tie
 
 abbrev Inv-loop : tie.InvT-loop
-Inv-loop out₀ room names at sink₀ k₀ out sink k = (Pouring room out₀ out sink₀ (nameAt names at) sink (nameFrom names (at + k) (32 - k))) × (length out ≡ length out₀) × (k ≤ 32)
+Inv-loop out₀ room names at sink₀ k₀ out sink k = (Pouring room out₀ out sink₀ (nameAt names at) sink (nameFrom names (at + k) (nameWidth - k))) × (length out ≡ length out₀) × (k ≤ nameWidth)
 
 abbrev μ-loop : tie.MeasureT-loop
-μ-loop out₀ room names at sink₀ k₀ out sink k = 32 - k
+μ-loop out₀ room names at sink₀ k₀ out sink k = nameWidth - k
 
 pub put-name-spec : {M : Type 1} → statement M
 put-name-spec =
@@ -21,14 +22,14 @@ put-name-spec =
     (tie.spec
     Inv-loop
     μ-loop
-    (λ c. search (needs, name-start))
-    (λ c. search needs)
-    (λ c κs. search needs)
-    (λ c. search needs)
-    (λ c. search (needs, name-stop))
-    (λ c κs. search needs)
-    (λ c. search needs)
-    (λ c. search needs)
-    (λ c. search (needs, name-on))
-    (λ c. search needs)
-    (λ c. search (needs, name-end)))
+    (λ c. search (needs, name-start))  -- loop-holds
+    (λ c. search needs)  -- add-byte-at
+    (λ c κs. search needs)  -- byte-at-requires
+    (λ c. search needs)  -- same-length
+    (λ c. search (needs, name-stop))  -- returns
+    (λ c κs. search needs)  -- put-byte-requires
+    (λ c. search needs)  -- add-k
+    (λ c. search needs)  -- loop-less
+    (λ c. search (needs, name-on))  -- loop-again
+    (λ c. search needs)  -- same-length-2
+    (λ c. search (needs, name-end)))  -- returns-2

@@ -1,3 +1,4 @@
+-- Key, name and line end, poured one after another, are the line.
 use borrow.Author.Needs.{needs}
 use Rattle.lines.proofs.Lines.{line-pours}
 use Rattle.listing.proofs.put_name_line.Statement.{statement}
@@ -7,8 +8,8 @@ pub put-name-line-spec : {M : Type 1} → statement M
 put-name-line-spec =
     tie.close
     (tie.spec
-    (λ c κs. search needs)
-    (λ c κs. search needs)
-    (λ c κs. search needs)
-    (λ c. search needs)
-    (λ c. search line-pours))
+    (λ c κs. search needs)  -- put-bytes-requires
+    (λ c κs. search needs)  -- put-name-requires
+    (λ c κs. search needs)  -- put-line-end-requires
+    (λ c. search needs)  -- same-length
+    (λ c. search line-pours))  -- returns

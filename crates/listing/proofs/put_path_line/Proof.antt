@@ -1,3 +1,4 @@
+-- Key, the map's name, the steps and line end, poured one after another, are the line `reg=`.
 use borrow.Author.Needs.{needs}
 use Rattle.lines.proofs.Lines.{line-pours}
 use Rattle.lines.proofs.Pouring.{pours-then}
@@ -8,16 +9,17 @@ pub put-path-line-spec : {M : Type 1} → statement M
 put-path-line-spec =
     tie.close
     (tie.spec
-    (λ c. search needs)
-    (λ c κs. search needs)
-    (λ c κs. search needs)
-    (λ c. search needs)
-    (λ c. search needs)
-    (λ c. search needs)
-    (λ c. search needs)
-    (λ c κs. search needs)
-    (λ c κs. search needs)
-    (λ c. search needs)
+    (λ c. search needs)  -- slice-aggregate-put-bytes
+    (λ c κs. search needs)  -- put-bytes-requires
+    (λ c κs. search needs)  -- put-name-requires
+    (λ c. search needs)  -- mul-index
+    (λ c. search needs)  -- add-index
+    (λ c. search needs)  -- mul-name
+    (λ c. search needs)  -- add-name
+    (λ c κs. search needs)  -- put-steps-requires
+    (λ c κs. search needs)  -- put-line-end-requires
+    (λ c. search needs)  -- same-length
+    -- returns
     (λ c.
     let p4 = c .before .before in
     let p3 = p4 .before .before .before .before in

@@ -1,3 +1,4 @@
+-- A dot, the name and the index, poured one after another, are a step of the path.
 use borrow.Author.Needs.{needs}
 use Rattle.listing.proofs.Lines.{step-pours}
 use Rattle.listing.proofs.put_step.Statement.{statement}
@@ -7,9 +8,9 @@ pub put-step-spec : {M : Type 1} → statement M
 put-step-spec =
     tie.close
     (tie.spec
-    (λ c. search needs)
-    (λ c κs. search needs)
-    (λ c κs. search needs)
-    (λ c κs. search needs)
-    (λ c. search needs)
-    (λ c. search step-pours))
+    (λ c. search needs)  -- slice-aggregate-put-bytes
+    (λ c κs. search needs)  -- put-bytes-requires
+    (λ c κs. search needs)  -- put-name-requires
+    (λ c κs. search needs)  -- put-index-requires
+    (λ c. search needs)  -- same-length
+    (λ c. search step-pours))  -- returns

@@ -1,3 +1,4 @@
+-- The first byte is 0 and the second one of two letters.
 use borrow.Author.Needs.{needs}
 use Rattle.numbers.proofs.Laws.{hex-no, hex-lower, hex-upper}
 use Rattle.numbers.proofs.hex_prefixed.Statement.{statement}
@@ -7,8 +8,8 @@ pub hex-prefixed-spec : {M : Type 1} → statement M
 hex-prefixed-spec =
     tie.close
     (tie.spec
-    (λ c κs. search needs)
-    (λ c. search hex-no)
-    (λ c κs. search needs)
-    (λ c. search hex-lower)
-    (λ c. search hex-upper))
+    (λ c κs. search needs)  -- byte-at-requires
+    (λ c. search hex-no)  -- returns
+    (λ c κs. search needs)  -- byte-at-requires-2
+    (λ c. search hex-lower)  -- returns-2
+    (λ c. search hex-upper))  -- returns-3

@@ -1,9 +1,7 @@
 -- The test by a quotient says whether the next value fits.
 use Prim.Native.Nat.{_+_, _*_, _^_, _<_, _≤_}
-use mathlib.Core.Path.{_≡_}
 use native.Mathlib.Omega.{arith}
 use borrow.Author.Needs.{needs}
-use Rattle.numbers.specs.Number.{digitValue}
 use Rattle.numbers.proofs.Laws.{fitting-yes, fitting-no, digit-small, next-underscore, next-digit, quotient-above, quotient-below}
 use Rattle.numbers.proofs.next_value.Statement.{statement}
 use Rattle.numbers.proofs.next_value.Tie as tie
@@ -31,10 +29,10 @@ next-value-spec =
     tie.close
     (tie.spec
     returns
-    (λ c κs. search needs)
-    (λ c. omega (arith, small c))
-    (λ c. search needs)
+    (λ c κs. search needs)  -- digit-value-requires
+    (λ c. omega (arith, small c))  -- sub-if2
+    (λ c. search needs)  -- div-if2
     returns-2
-    (λ c. omega (arith, below c))
-    (λ c. omega (arith, below c))
+    (λ c. omega (arith, below c))  -- mul-t6
+    (λ c. omega (arith, below c))  -- add-t7
     returns-3)

@@ -1,3 +1,4 @@
+-- Decimal, hex or sized: the first bytes decide which, and each reader gives that number.
 use borrow.Author.Needs.{needs}
 use Rattle.numbers.proofs.Laws.{number-decimal, number-hex, number-sized}
 use Rattle.numbers.proofs.number_of.Statement.{statement}
@@ -7,12 +8,12 @@ pub number-of-spec : {M : Type 1} → statement M
 number-of-spec =
     tie.close
     (tie.spec
-    (λ c κs. search needs)
-    (λ c κs. search needs)
-    (λ c. search number-decimal)
-    (λ c κs. search needs)
-    (λ c κs. search needs)
-    (λ c. search number-hex)
-    (λ c κs. search needs)
-    (λ c κs. search needs)
-    (λ c. search number-sized))
+    (λ c κs. search needs)  -- plain-digits-requires
+    (λ c κs. search needs)  -- fitting-value-requires
+    (λ c. search number-decimal)  -- returns
+    (λ c κs. search needs)  -- hex-prefixed-requires
+    (λ c κs. search needs)  -- hex-number-requires
+    (λ c. search number-hex)  -- returns-2
+    (λ c κs. search needs)  -- run-end-requires
+    (λ c κs. search needs)  -- sized-at-requires
+    (λ c. search number-sized))  -- returns-3

@@ -1,3 +1,4 @@
+-- A quote behind the width, a letter and digits make a sized number; without them it is malformed.
 use borrow.Author.Needs.{needs}
 use Rattle.numbers.proofs.Laws.{quote-past, quote-other, quote-last, quote-sized}
 use Rattle.numbers.proofs.sized_at.Statement.{statement}
@@ -7,17 +8,17 @@ pub sized-at-spec : {M : Type 1} → statement M
 sized-at-spec =
     tie.close
     (tie.spec
-    (λ c. search quote-past)
-    (λ c. search needs)
-    (λ c. search quote-other)
-    (λ c. search needs)
-    (λ c. search quote-last)
-    (λ c. search needs)
-    (λ c. search needs)
-    (λ c. search needs)
-    (λ c κs. search needs)
-    (λ c. search needs)
-    (λ c κs. search needs)
-    (λ c. search needs)
-    (λ c κs. search needs)
-    (λ c. search quote-sized))
+    (λ c. search quote-past)  -- returns
+    (λ c. search needs)  -- shared-slice-read-if2
+    (λ c. search quote-other)  -- returns-2
+    (λ c. search needs)  -- add-letter
+    (λ c. search quote-last)  -- returns-3
+    (λ c. search needs)  -- sub-width-of
+    (λ c. search needs)  -- part-width-of-start
+    (λ c. search needs)  -- part-width-of-end
+    (λ c κs. search needs)  -- width-of-requires
+    (λ c. search needs)  -- shared-slice-read-radix-of
+    (λ c κs. search needs)  -- radix-of-requires
+    (λ c. search needs)  -- add-sized-number
+    (λ c κs. search needs)  -- sized-number-requires
+    (λ c. search quote-sized))  -- returns-4

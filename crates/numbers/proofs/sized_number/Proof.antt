@@ -1,3 +1,4 @@
+-- An unknown letter, no width and bytes that are no digits are malformed; else the value has to fit the width.
 use borrow.Author.Needs.{needs}
 use Rattle.numbers.proofs.Laws.{sized-unknown, sized-zero, sized-malformed, sized-digits}
 use borrow.Author.Tests.{not-true, not-false}
@@ -8,12 +9,12 @@ pub sized-number-spec : {M : Type 1} → statement M
 sized-number-spec =
     tie.close
     (tie.spec
-    (λ c. search needs)
-    (λ c. search needs)
-    (λ c. search sized-unknown)
-    (λ c. search sized-zero)
-    (λ c κs. search needs)
-    (λ c. search (sized-malformed, not-true))
-    (λ c κs. search needs)
-    (λ c κs. search needs)
-    (λ c. search (sized-digits, not-false)))
+    (λ c. search needs)  -- enum-known-radix
+    (λ c. search needs)  -- enum-told
+    (λ c. search sized-unknown)  -- returns
+    (λ c. search sized-zero)  -- returns-2
+    (λ c κs. search needs)  -- spaced-digits-requires
+    (λ c. search (sized-malformed, not-true))  -- returns-3
+    (λ c κs. search needs)  -- base-of-requires
+    (λ c κs. search needs)  -- fitting-value-requires
+    (λ c. search (sized-digits, not-false)))  -- returns-4

@@ -1,3 +1,4 @@
+-- By 0 there is no result; else it is the rest.
 use borrow.Author.Needs.{needs}
 use Rattle.operators.proofs.Laws.{modulo-out, modulo-is}
 use Rattle.operators.proofs.modulo.Statement.{statement}
@@ -7,6 +8,6 @@ pub modulo-spec : {M : Type 1} → statement M
 modulo-spec =
     tie.close
     (tie.spec
-    (λ c. search modulo-out)
-    (λ c. search needs)
-    (λ c. search modulo-is))
+    (λ c. search modulo-out)  -- returns
+    (λ c. search needs)  -- rem-t4
+    (λ c. search modulo-is))  -- returns-2

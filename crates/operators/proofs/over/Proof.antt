@@ -1,3 +1,4 @@
+-- By 0 there is no result; else it is the quotient.
 use borrow.Author.Needs.{needs}
 use Rattle.operators.proofs.Laws.{over-out, over-is}
 use Rattle.operators.proofs.over.Statement.{statement}
@@ -7,6 +8,6 @@ pub over-spec : {M : Type 1} → statement M
 over-spec =
     tie.close
     (tie.spec
-    (λ c. search over-out)
-    (λ c. search needs)
-    (λ c. search over-is))
+    (λ c. search over-out)  -- returns
+    (λ c. search needs)  -- div-t4
+    (λ c. search over-is))  -- returns-2

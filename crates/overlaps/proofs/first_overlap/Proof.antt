@@ -6,10 +6,10 @@ use Rattle.overlaps.proofs.first_overlap.Statement.{statement}
 use Rattle.overlaps.proofs.first_overlap.Tie as tie
 
 abbrev Inv-loop : tie.InvT-loop
-Inv-loop text cells shapes log extent row count i₀ i = Searching text cells shapes log extent row count i
+Inv-loop text cells shapes log extent count i₀ i = Searching text cells shapes log extent (extent .map) count i
 
 abbrev μ-loop : tie.MeasureT-loop
-μ-loop text cells shapes log extent row count i₀ i = count - i
+μ-loop text cells shapes log extent count i₀ i = count - i
 
 pub first-overlap-spec : {M : Type 1} → statement M
 first-overlap-spec =
@@ -17,11 +17,11 @@ first-overlap-spec =
     (tie.spec
     Inv-loop
     μ-loop
-    (λ c. search searching-start)
-    (λ c κs. search (needs, searching-low))
-    (λ c κs. search (needs, searching-few, searching-depth))
-    (λ c. search searching-hit)
-    (λ c. search needs)
-    (λ c. search needs)
-    (λ c. search searching-next)
-    (λ c. search searching-end))
+    (λ c. search searching-start)  -- loop-holds
+    (λ c κs. search (needs, searching-low))  -- overlaps-earlier-requires
+    (λ c κs. search (needs, searching-few, searching-depth))  -- place-at-requires
+    (λ c. search searching-hit)  -- returns
+    (λ c. search needs)  -- add-i
+    (λ c. search needs)  -- loop-less
+    (λ c. search searching-next)  -- loop-again
+    (λ c. search searching-end))  -- returns-2

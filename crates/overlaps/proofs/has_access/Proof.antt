@@ -1,6 +1,7 @@
 -- In each text whose rows are ready, the fields that are left all have the access exactly when all have it.
 use borrow.Author.Needs.{needs}
 use Prim.Native.Nat.{_-_}
+use Rattle.sizes.proofs.Laws.{ready-low, ready-within}
 use Rattle.overlaps.proofs.Access.{Asking, asking-start, asking-stop, asking-next, asking-end}
 use Rattle.overlaps.proofs.has_access.Statement.{statement}
 use Rattle.overlaps.proofs.has_access.Tie as tie
@@ -17,14 +18,14 @@ has-access-spec =
     (tie.spec
     Inv-loop
     μ-loop
-    (λ c κs. search needs)
-    (λ c. search asking-start)
-    (λ c κs. search needs)
-    (λ c κs. search needs)
-    (λ c κs. search needs)
-    (λ c κs. search needs)
-    (λ c. search asking-stop)
-    (λ c. search needs)
-    (λ c. search needs)
-    (λ c. search asking-next)
-    (λ c. search asking-end))
+    (λ c κs. search (needs, ready-low, ready-within))  -- instances-of-requires
+    (λ c. search asking-start)  -- loop-holds
+    (λ c κs. search needs)  -- cell-requires
+    (λ c κs. search needs)  -- row-in-requires
+    (λ c κs. search needs)  -- component-at-requires
+    (λ c κs. search needs)  -- is-access-requires
+    (λ c. search asking-stop)  -- returns
+    (λ c. search needs)  -- add-i
+    (λ c. search needs)  -- loop-less
+    (λ c. search asking-next)  -- loop-again
+    (λ c. search asking-end))  -- returns-2

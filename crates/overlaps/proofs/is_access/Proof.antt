@@ -1,3 +1,4 @@
+-- A field has the one access that it has; what is no field has every access.
 use borrow.Author.Needs.{needs}
 use Rattle.overlaps.proofs.Access.{access-field, access-register, access-regfile, access-map}
 use Rattle.overlaps.proofs.is_access.Statement.{statement}
@@ -7,11 +8,11 @@ pub is-access-spec : {M : Type 1} → statement M
 is-access-spec =
     tie.close
     (tie.spec
-    (λ c. search needs)
-    (λ c. search needs)
-    (λ c. search needs)
-    (λ c. search needs)
-    (λ c. search access-field)
-    (λ c. search access-register)
-    (λ c. search access-regfile)
-    (λ c. search access-map))
+    (λ c. search needs)  -- enum-known-component
+    (λ c. search needs)  -- enum-told
+    (λ c. search needs)  -- enum-told-2
+    (λ c. search needs)  -- enum-told-3
+    (λ c. search access-field)  -- returns
+    (λ c. search access-register)  -- returns-2
+    (λ c. search access-regfile)  -- returns-3
+    (λ c. search access-map))  -- returns-4

@@ -8,9 +8,9 @@ pub read-instance-spec : {M : Type 1} → statement M
 read-instance-spec =
     tie.close
     (tie.spec
-    (λ c κs. search needs)
-    (λ c. search needs)
-    (λ c κs. search needs)
-    (λ c. search needs)
-    (λ c. search name-done)
-    (λ c. search name-stop))
+    (λ c κs. search needs)  -- read-name-requires
+    (λ c. search needs)  -- enum-known-name
+    (λ c κs. search needs)  -- read-named-requires
+    (λ c. search needs)  -- enum-known-place
+    (λ c. search name-done)  -- returns
+    (λ c. search name-stop))  -- returns-2

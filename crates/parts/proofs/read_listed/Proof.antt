@@ -1,3 +1,4 @@
+-- An instance is read, then the mark behind it.
 use borrow.Author.Needs.{needs}
 use Rattle.parts.proofs.Laws.{listed-more, listed-stop}
 use Rattle.parts.proofs.read_listed.Statement.{statement}
@@ -7,9 +8,9 @@ pub read-listed-spec : {M : Type 1} → statement M
 read-listed-spec =
     tie.close
     (tie.spec
-    (λ c κs. search needs)
-    (λ c. search needs)
-    (λ c κs. search needs)
-    (λ c. search needs)
-    (λ c. search listed-more)
-    (λ c. search listed-stop))
+    (λ c κs. search needs)  -- read-instance-requires
+    (λ c. search needs)  -- enum-known-instance
+    (λ c κs. search needs)  -- read-parted-requires
+    (λ c. search needs)  -- enum-known-number
+    (λ c. search listed-more)  -- returns
+    (λ c. search listed-stop))  -- returns-2

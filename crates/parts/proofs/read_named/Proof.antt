@@ -8,9 +8,9 @@ pub read-named-spec : {M : Type 1} → statement M
 read-named-spec =
     tie.close
     (tie.spec
-    (λ c κs. search needs)
-    (λ c. search needs)
-    (λ c κs. search needs)
-    (λ c. search needs)
-    (λ c. search named-done)
-    (λ c. search named-stop))
+    (λ c κs. search needs)  -- read-array-requires
+    (λ c. search needs)  -- enum-known-array
+    (λ c κs. search needs)  -- read-suffixes-requires
+    (λ c. search needs)  -- enum-known-number
+    (λ c. search named-done)  -- returns
+    (λ c. search named-stop))  -- returns-2

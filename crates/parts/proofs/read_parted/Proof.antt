@@ -1,3 +1,4 @@
+-- A semicolon makes the instance the last of its list, a comma not; any other word is refused by 3.
 use borrow.Author.Needs.{needs}
 use Rattle.parts.proofs.Laws.{parted-last, parted-more, parted-no}
 use Rattle.parts.proofs.read_parted.Statement.{statement}
@@ -7,9 +8,9 @@ pub read-parted-spec : {M : Type 1} → statement M
 read-parted-spec =
     tie.close
     (tie.spec
-    (λ c κs. search needs)
-    (λ c κs. search needs)
-    (λ c. search parted-last)
-    (λ c κs. search needs)
-    (λ c. search parted-more)
-    (λ c. search parted-no))
+    (λ c κs. search needs)  -- next-token-requires
+    (λ c κs. search needs)  -- is-mark-requires
+    (λ c. search parted-last)  -- returns
+    (λ c κs. search needs)  -- is-mark-requires-2
+    (λ c. search parted-more)  -- returns-2
+    (λ c. search parted-no))  -- returns-3

@@ -8,17 +8,17 @@ pub read-placing-spec : {M : Type 1} → statement M
 read-placing-spec =
     tie.close
     (tie.spec
-    (λ c κs. search needs)
-    (λ c. search needs)
-    (λ c. search needs)
-    (λ c κs. search needs)
-    (λ c. search needs)
-    (λ c. search needs)
-    (λ c κs. search needs)
-    (λ c. search needs)
-    (λ c. search needs)
-    (λ c κs. search needs)
-    (λ c. search address-stop)
-    (λ c. search stride-stop)
-    (λ c. search alignment-stop)
-    (λ c. search alignment-done))
+    (λ c κs. search needs)  -- read-suffix-requires
+    (λ c. search needs)  -- enum-known-number
+    (λ c. search needs)  -- enum-known-address
+    (λ c κs. search needs)  -- read-suffix-requires-2
+    (λ c. search needs)  -- enum-known-number-2
+    (λ c. search needs)  -- enum-known-stride
+    (λ c κs. search needs)  -- read-suffix-requires-3
+    (λ c. search needs)  -- enum-known-number-3
+    (λ c. search needs)  -- enum-known-alignment
+    (λ c κs. search needs)  -- instance-of-requires
+    (λ c. search address-stop)  -- returns
+    (λ c. search stride-stop)  -- returns-2
+    (λ c. search alignment-stop)  -- returns-3
+    (λ c. search alignment-done))  -- returns-4

@@ -8,12 +8,12 @@ pub starts-suffix-spec : {M : Type 1} → statement M
 starts-suffix-spec =
     tie.close
     (tie.spec
-    (λ c κs. search needs)
-    (λ c κs. search needs)
-    (λ c. search starts-reset)
-    (λ c κs. search needs)
-    (λ c. search starts-address)
-    (λ c κs. search needs)
-    (λ c. search starts-stride)
-    (λ c κs. search needs)
-    (λ c. search starts-alignment))
+    (λ c κs. search needs)  -- next-token-requires
+    (λ c κs. search needs)  -- is-mark-requires
+    (λ c. search starts-reset)  -- returns
+    (λ c κs. search needs)  -- is-mark-requires-2
+    (λ c. search starts-address)  -- returns-2
+    (λ c κs. search needs)  -- is-mark-requires-3
+    (λ c. search starts-stride)  -- returns-3
+    (λ c κs. search needs)  -- is-mark-requires-4
+    (λ c. search starts-alignment))  -- returns-4

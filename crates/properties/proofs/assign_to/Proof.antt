@@ -1,3 +1,4 @@
+-- A default goes among the defaults, a setting among the body's own.
 use borrow.Author.Needs.{needs}
 use Rattle.properties.specs.Assigned.{assigned}
 use Rattle.properties.proofs.assign_to.Statement.{statement}
@@ -8,7 +9,7 @@ unfolding assigned
 assign-to-spec =
     tie.close
     (tie.spec
-    (λ c κs. search needs)
-    (λ c. rw (c .before .if1 .taken, c .assign-slot .ensures))
-    (λ c κs. search needs)
-    (λ c. rw (c .before .if1 .left, c .assign-slot2 .ensures)))
+    (λ c κs. search needs)  -- assign-slot-requires
+    (λ c. rw (c .before .if1 .taken, c .assign-slot .ensures))  -- returns
+    (λ c κs. search needs)  -- assign-slot-requires-2
+    (λ c. rw (c .before .if1 .left, c .assign-slot2 .ensures)))  -- returns-2

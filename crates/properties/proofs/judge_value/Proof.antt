@@ -1,3 +1,4 @@
+-- A value in its range is set; any other breaks 9 at its place.
 use borrow.Author.Needs.{needs}
 use Rattle.properties.specs.Properties.{judgeValue}
 use Rattle.properties.proofs.judge_value.Statement.{statement}
@@ -8,9 +9,9 @@ unfolding judgeValue
 judge-value-spec =
     tie.close
     (tie.spec
-    (λ c. search needs)
-    (λ c κs. search needs)
-    (λ c. search needs)
-    (λ c κs. search needs)
-    (λ c. rw (c .before .before .setting .given .1, c .assign-to .ensures))
-    (λ c. rw (c .before .enum-told .given .1, c .value-place .ensures)))
+    (λ c. search needs)  -- enum-known-setting
+    (λ c κs. search needs)  -- assign-to-requires
+    (λ c. search needs)  -- enum-told
+    (λ c κs. search needs)  -- value-place-requires
+    (λ c. rw (c .before .before .setting .given .1, c .assign-to .ensures))  -- returns
+    (λ c. rw (c .before .enum-told .given .1, c .value-place .ensures)))  -- returns-2

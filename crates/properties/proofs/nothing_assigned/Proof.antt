@@ -1,3 +1,4 @@
+-- Neither a setting nor a default is given.
 use borrow.Author.Needs.{needs}
 use Rattle.properties.proofs.nothing_assigned.Statement.{statement}
 use Rattle.properties.proofs.nothing_assigned.Tie as tie
@@ -6,6 +7,6 @@ pub nothing-assigned-spec : {M : Type 1} → statement M
 nothing-assigned-spec =
     tie.close
     (tie.spec
-    (λ c κs. search needs)
-    (λ c κs. search needs)
-    (λ c. rw (c .before .no-settings .ensures, c .no-settings2 .ensures)))
+    (λ c κs. search needs)  -- no-settings-requires
+    (λ c κs. search needs)  -- no-settings-requires-2
+    (λ c. rw (c .before .no-settings .ensures, c .no-settings2 .ensures)))  -- returns

@@ -1,3 +1,4 @@
+-- Where it is chosen the number is new, else the old one stays.
 use Rattle.properties.proofs.replace.Statement.{statement}
 use Rattle.properties.proofs.replace.Tie as tie
 
@@ -5,5 +6,5 @@ pub replace-spec : {M : Type 1} → statement M
 replace-spec =
     tie.close
     (tie.spec
-    (λ c. rw (c .if1 .taken))
-    (λ c. rw (c .if1 .left)))
+    (λ c. rw (c .if1 .taken))  -- returns
+    (λ c. rw (c .if1 .left)))  -- returns-2

@@ -1,3 +1,4 @@
+-- The flag picks the defaults or the body's own settings.
 use Rattle.properties.proofs.settings_of.Statement.{statement}
 use Rattle.properties.proofs.settings_of.Tie as tie
 
@@ -5,5 +6,5 @@ pub settings-of-spec : {M : Type 1} → statement M
 settings-of-spec =
     tie.close
     (tie.spec
-    (λ c. rw (c .before .if1 .taken))
-    (λ c. rw (c .before .if1 .left)))
+    (λ c. rw (c .before .if1 .taken))  -- returns
+    (λ c. rw (c .before .if1 .left)))  -- returns-2

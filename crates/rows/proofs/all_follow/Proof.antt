@@ -19,15 +19,15 @@ all-follow-spec =
     (tie.spec
     Inv-loop
     μ-loop
-    (λ c. search follow-loop)
-    (λ c. search needs)
-    (λ c κs. search needs)
-    (λ c. search needs)
-    (λ c. search needs)
-    (λ c κs. search needs)
-    (λ c κs. search needs)
-    (λ c. search follow-loop)
-    (λ c. search needs)
-    (λ c. search needs)
-    (λ c. search follow-loop)
-    (λ c. search follow-loop))
+    (λ c. search follow-loop)  -- loop-holds
+    (λ c. search needs)  -- add-byte-at
+    (λ c κs. search needs)  -- byte-at-requires
+    (λ c. search needs)  -- add-byte-at-2
+    (λ c. search needs)  -- add-byte-at-3
+    (λ c κs. search needs)  -- byte-at-requires-2
+    (λ c κs. search needs)  -- follows-byte-requires
+    (λ c. search follow-loop)  -- returns
+    (λ c. search needs)  -- add-k
+    (λ c. search needs)  -- loop-less
+    (λ c. search follow-loop)  -- loop-again
+    (λ c. search follow-loop))  -- returns-2

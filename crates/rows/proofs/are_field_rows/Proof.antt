@@ -19,11 +19,11 @@ are-field-rows-spec =
     (tie.spec
     Inv-loop
     μ-loop
-    (λ c. search run-loop)
-    (λ c. search needs)
-    (λ c κs. search needs)
-    (λ c. search run-loop)
-    (λ c. search needs)
-    (λ c. search needs)
-    (λ c. search run-loop)
-    (λ c. search run-loop))
+    (λ c. search run-loop)  -- loop-holds
+    (λ c. search needs)  -- add-is-field-row
+    (λ c κs. search needs)  -- is-field-row-requires
+    (λ c. search run-loop)  -- returns
+    (λ c. search needs)  -- add-k
+    (λ c. search needs)  -- loop-less
+    (λ c. search run-loop)  -- loop-again
+    (λ c. search run-loop))  -- returns-2

@@ -2,16 +2,17 @@
 use borrow.Author.Needs.{needs}
 use Prim.Native.Nat.{_+_, _-_, _≤_}
 use mathlib.Core.Path.{_≡_}
+use Rattle.basics.specs.Limits.{nestLimit, indexBound}
 use Rattle.rows.specs.Lawful.{areIndices}
 use Rattle.rows.proofs.Names.{index-loop}
 use Rattle.rows.proofs.are_indices.Statement.{statement}
 use Rattle.rows.proofs.are_indices.Tie as tie
 
 abbrev Inv-loop : tie.InvT-loop
-Inv-loop registers start depth k₀ at₀ k at = (areIndices registers depth at k (8 - k) ≡ areIndices registers depth start 0 8) × (at ≤ 1048576 + k) × (k ≤ 8)
+Inv-loop registers start depth k₀ at₀ k at = (areIndices registers depth at k (nestLimit - k) ≡ areIndices registers depth start 0 nestLimit) × (at ≤ indexBound + k) × (k ≤ nestLimit)
 
 abbrev μ-loop : tie.MeasureT-loop
-μ-loop registers start depth k₀ at₀ k at = 8 - k
+μ-loop registers start depth k₀ at₀ k at = nestLimit - k
 
 pub are-indices-spec : {M : Type 1} → statement M
 are-indices-spec =
@@ -19,12 +20,12 @@ are-indices-spec =
     (tie.spec
     Inv-loop
     μ-loop
-    (λ c. search needs)
-    (λ c κs. search needs)
-    (λ c κs. search needs)
-    (λ c. search (needs, index-loop))
-    (λ c. search needs)
-    (λ c. search needs)
-    (λ c. search needs)
-    (λ c. search (needs, index-loop))
-    (λ c. search index-loop))
+    (λ c. search needs)  -- loop-holds
+    (λ c κs. search needs)  -- cell-requires
+    (λ c κs. search needs)  -- is-index-requires
+    (λ c. search (needs, index-loop))  -- returns
+    (λ c. search needs)  -- add-at
+    (λ c. search needs)  -- add-k
+    (λ c. search needs)  -- loop-less
+    (λ c. search (needs, index-loop))  -- loop-again
+    (λ c. search index-loop))  -- returns-2

@@ -1,3 +1,4 @@
+-- Tables that are not whole are unlawful; whole ones are lawful exactly where all rows are.
 use borrow.Author.Needs.{needs}
 use Rattle.rows.proofs.Registers.{few-registers, few-fields, lawful-not, lawful-rows}
 use Rattle.rows.proofs.are_lawful.Statement.{statement}
@@ -7,7 +8,7 @@ pub are-lawful-spec : {M : Type 1} → statement M
 are-lawful-spec =
     tie.close
     (tie.spec
-    (λ c κs. search needs)
-    (λ c. search lawful-not)
-    (λ c κs. search (needs, few-registers, few-fields))
-    (λ c. search lawful-rows))
+    (λ c κs. search needs)  -- are-whole-requires
+    (λ c. search lawful-not)  -- returns
+    (λ c κs. search (needs, few-registers, few-fields))  -- are-rows-requires
+    (λ c. search lawful-rows))  -- returns-2

@@ -20,12 +20,14 @@ are-rows-spec =
     (tie.spec
     Inv-loop
     μ-loop
-    (λ c. search (needs, rows-start))
-    (λ c κs. search needs)
-    (λ c. search (needs, rows-stop))
-    (λ c κs. search needs)
+    (λ c. search (needs, rows-start))  -- loop-holds
+    (λ c κs. search needs)  -- is-register-row-requires
+    (λ c. search (needs, rows-stop))  -- returns
+    (λ c κs. search needs)  -- register-row-requires
+    -- add-first
     (λ c. let w = row-fits _ _ _ _ (c .before .before .is-register-row .ensures) (c .before .if1 .left) (c .register-row .ensures) in search needs)
-    (λ c. search needs)
-    (λ c. search needs)
+    (λ c. search needs)  -- add-i
+    (λ c. search needs)  -- loop-less
+    -- loop-again
     (λ c. rows-on _ _ _ _ _ (c .before .before .before .before .loop .inv .0) (c .before .before .before .loop-test .taken) (c .before .before .is-register-row .ensures) (c .before .if1 .left) (c .register-row .ensures))
-    (λ c. search (needs, rows-end)))
+    (λ c. search (needs, rows-end)))  -- returns-2

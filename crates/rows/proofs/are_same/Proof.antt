@@ -19,13 +19,13 @@ are-same-spec =
     (tie.spec
     Inv-loop
     μ-loop
-    (λ c. search same-loop)
-    (λ c. search needs)
-    (λ c κs. search needs)
-    (λ c. search needs)
-    (λ c κs. search needs)
-    (λ c. search same-loop)
-    (λ c. search needs)
-    (λ c. search needs)
-    (λ c. search same-loop)
-    (λ c. search same-loop))
+    (λ c. search same-loop)  -- loop-holds
+    (λ c. search needs)  -- add-byte-at
+    (λ c κs. search needs)  -- byte-at-requires
+    (λ c. search needs)  -- add-byte-at-2
+    (λ c κs. search needs)  -- byte-at-requires-2
+    (λ c. search same-loop)  -- returns
+    (λ c. search needs)  -- add-k
+    (λ c. search needs)  -- loop-less
+    (λ c. search same-loop)  -- loop-again
+    (λ c. search same-loop))  -- returns-2

@@ -19,11 +19,11 @@ are-zero-spec =
     (tie.spec
     Inv-loop
     μ-loop
-    (λ c. search zero-loop)
-    (λ c. search needs)
-    (λ c κs. search needs)
-    (λ c. search zero-loop)
-    (λ c. search needs)
-    (λ c. search needs)
-    (λ c. search zero-loop)
-    (λ c. search zero-loop))
+    (λ c. search zero-loop)  -- loop-holds
+    (λ c. search needs)  -- add-byte-at
+    (λ c κs. search needs)  -- byte-at-requires
+    (λ c. search zero-loop)  -- returns
+    (λ c. search needs)  -- add-k
+    (λ c. search needs)  -- loop-less
+    (λ c. search zero-loop)  -- loop-again
+    (λ c. search zero-loop))  -- returns-2

@@ -1,3 +1,4 @@
+-- A zero may follow anything; behind a zero nothing else may, and elsewhere a name's byte.
 use borrow.Author.Needs.{needs}
 use Rattle.rows.proofs.Names.{follow-zero, follow-none, follow-some}
 use Rattle.rows.proofs.follows_byte.Statement.{statement}
@@ -7,7 +8,7 @@ pub follows-byte-spec : {M : Type 1} → statement M
 follows-byte-spec =
     tie.close
     (tie.spec
-    (λ c. search follow-zero)
-    (λ c. search follow-none)
-    (λ c κs. search needs)
-    (λ c. search follow-some))
+    (λ c. search follow-zero)  -- returns
+    (λ c. search follow-none)  -- returns-2
+    (λ c κs. search needs)  -- is-name-byte-requires
+    (λ c. search follow-some))  -- returns-3

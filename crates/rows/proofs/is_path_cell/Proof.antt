@@ -1,3 +1,4 @@
+-- Up to the depth a cell is a name; behind it there are zeros.
 use borrow.Author.Needs.{needs}
 use Rattle.rows.proofs.Names.{cell-name, cell-zero}
 use Rattle.rows.proofs.is_path_cell.Statement.{statement}
@@ -7,7 +8,7 @@ pub is-path-cell-spec : {M : Type 1} → statement M
 is-path-cell-spec =
     tie.close
     (tie.spec
-    (λ c κs. search needs)
-    (λ c. search cell-name)
-    (λ c κs. search needs)
-    (λ c. search cell-zero))
+    (λ c κs. search needs)  -- is-name-requires
+    (λ c. search cell-name)  -- returns
+    (λ c κs. search needs)  -- are-zero-requires
+    (λ c. search cell-zero))  -- returns-2

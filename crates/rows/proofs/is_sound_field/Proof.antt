@@ -1,3 +1,4 @@
+-- The bits are in order and inside the register, and 12 and 13 are kept.
 use borrow.Author.Needs.{needs}
 use Rattle.rows.proofs.Fields.{sound-order, sound-outside, sound-effect, sound-reset, high-fits}
 use Rattle.rows.proofs.is_sound_field.Statement.{statement}
@@ -7,9 +8,9 @@ pub is-sound-field-spec : {M : Type 1} → statement M
 is-sound-field-spec =
     tie.close
     (tie.spec
-    (λ c. search sound-order)
-    (λ c. search sound-outside)
-    (λ c κs. search needs)
-    (λ c. search sound-effect)
-    (λ c κs. search high-fits)
-    (λ c. search sound-reset))
+    (λ c. search sound-order)  -- returns
+    (λ c. search sound-outside)  -- returns-2
+    (λ c κs. search needs)  -- has-unusable-effect-requires
+    (λ c. search sound-effect)  -- returns-3
+    (λ c κs. search high-fits)  -- breaks-rule-requires
+    (λ c. search sound-reset))  -- returns-4

@@ -14,9 +14,9 @@ use Rattle.lex.proofs.next_token.Reads as next-token-reads
 use Rattle.parts.proofs.is_kind.Reads as is-kind-reads
 use Rattle.parts.proofs.is_mark.Reads as is-mark-reads
 use Rattle.parts.proofs.read_header.Reads as read-header-reads
-use Rattle.places.proofs.after_body.Reads as after-body-reads
-use Rattle.places.proofs.inner_scope.Reads as inner-scope-reads
-use Rattle.places.proofs.opening_walk.Reads as opening-walk-reads
+use Rattle.scopes.proofs.after_body.Reads as after-body-reads
+use Rattle.scopes.proofs.inner_scope.Reads as inner-scope-reads
+use Rattle.scopes.proofs.opening_walk.Reads as opening-walk-reads
 use Rattle.rules.proofs.close_body.Reads as close-body-reads
 use Rattle.rules.proofs.header_fault.Reads as header-fault-reads
 use Rattle.rules.proofs.judge_statement.Reads as judge-statement-reads
@@ -24,7 +24,7 @@ use Rattle.rules.proofs.judge_tail.Reads as judge-tail-reads
 use Rattle.rules.proofs.+judge_body+judge_definition.{statement}
 use Rattle.rules.proofs.+judge_body+judge_definition.Tie.{close}
 use lib.ListN.{length}
-use Rattle.rules.proofs.Bodies.{def-stop, def-past, def-broken, def-deep, def-few, def-opens, def-long, def-body, def-some, def-after, def-tail-long, def-tail}
+use Rattle.rules.proofs.Bodies.{def-stop, def-broken, def-deep, def-few, def-opens, def-long, def-body, def-some, def-after, def-tail-long, def-tail}
 use Rattle.rules.proofs.Loops.{step-definition, step-statement, BodyGoing, body-start, close-past, body-closes, body-faults, body-goes, body-falls, close-long, definition-long, statement-long}
 
 abbrev μ-judge-body : Measures 2 judge-body-kinds.ps ℕ
@@ -69,24 +69,126 @@ pub +judge-body+judge-definition-spec : {M : Type 1} → statement M
     (loop-holds t)
     (λ c κs. search needs)  -- next-token-requires
     (λ c κs. search needs)  -- is-mark-requires
-    (λ c κs. let l = c .before .before .before .before .loop .inv in let p = close-past _ _ _ _ _ _ l (c .before .before .before .next-token .ensures) (c .before .before .is-mark .ensures) (c .before .if1 .taken) in (l .fits, l .inner, p .0, p .1))  -- close-body-requires
-    (λ c. close-long (c .before .before .before .before .before .before .before .loop .inv) (c .before .before .close-body .ensures))  -- same-length
-    (λ c. body-closes _ _ _ _ _ _ (c .before .before .before .before .before .before .before .loop .inv) (c .before .before .before .before .before .before .next-token .ensures) (c .before .before .before .before .before .is-mark .ensures) (c .before .before .before .before .if1 .taken) (c .before .before .close-body .ensures))  -- returns
+    -- close-body-requires
+    (λ c κs. let l = c .before .before .before .before .loop .inv in let p = close-past _ _ _ _ _ _ l (c .before .before .before .next-token .ensures) (c .before .before .is-mark .ensures) (c .before .if1 .taken) in (l .fits, l .inner, p .0, p .1))
+    -- same-length
+    (λ c.
+    let at-close-body = c .before .before in
+    let at-next-token = at-close-body .before .before .before .before in
+    let at-loop = at-next-token .before in
+    close-long (at-loop .loop .inv) (at-close-body .close-body .ensures))
+    -- returns
+    (λ c.
+    let at-close-body = c .before .before in
+    let at-if1 = at-close-body .before .before in
+    let at-is-mark = at-if1 .before in
+    let at-next-token = at-is-mark .before in
+    let at-loop = at-next-token .before in
+    body-closes _ _ _ _ _ _ (at-loop .loop .inv) (at-next-token .next-token .ensures) (at-is-mark .is-mark .ensures) (at-if1 .if1 .taken) (at-close-body .close-body .ensures))
     (λ c κs. search needs)  -- is-kind-requires
-    (λ c κs. (omega arith, c .before .before .before .before .before .before .loop .inv .fits))  -- judge-definition-requires
+    -- judge-definition-requires
+    (λ c κs.
+    let at-is-mark = c .before .before .before .before in
+    let at-loop = at-is-mark .before .before in
+    (omega arith, at-loop .loop .inv .fits))
     (λ c. search needs)  -- enum-known-number
-    (λ c. definition-long (c .before .before .before .before .before .before .before .before .before .before .before .before .loop .inv) _ (c .before .before .before .before .before .judge-definition .ensures))  -- same-length-2
-    (λ c. body-faults _ _ _ _ _ _ (c .before .before .before .before .before .before .before .before .before .before .before .before .loop .inv) (c .before .before .before .before .before .before .before .before .before .before .before .next-token .ensures) (c .before .before .before .before .before .before .before .before .before .before .is-mark .ensures) (c .before .before .before .before .before .before .before .before .before .if1 .left) (let p = c .before .before .before .before .before .before .before .before .before .before .before .before .before .before .before .pre .1 in p .2) (step-definition _ _ _ _ _ (c .before .before .before .before .before .before .before .before .before .before .before .next-token .ensures) (c .before .before .before .before .before .before .before .before .is-kind .ensures) (c .before .before .before .before .before .before .before .if2 .taken) (c .before .before .before .before .before .judge-definition .ensures)) (c .before .number .given .1))  -- returns-2
+    -- same-length-2
+    (λ c.
+    let at-cells2 = c .before .before .before .before in
+    let at-judge-definition = at-cells2 .before in
+    let at-is-kind = at-judge-definition .before .before .before in
+    let at-loop = at-is-kind .before .before .before .before in
+    definition-long (at-loop .loop .inv) _ (at-judge-definition .judge-definition .ensures))
+    -- returns-2
+    (λ c.
+    let at-number = c .before in
+    let at-judge-definition = at-number .before .before .before .before in
+    let at-if2 = at-judge-definition .before .before in
+    let at-is-kind = at-if2 .before in
+    let at-if1 = at-is-kind .before in
+    let at-is-mark = at-if1 .before in
+    let at-next-token = at-is-mark .before in
+    let at-loop = at-next-token .before in
+    let at-start = at-loop .before .before .before in
+    body-faults _ _ _ _ _ _ (at-loop .loop .inv) (at-next-token .next-token .ensures) (at-is-mark .is-mark .ensures) (at-if1 .if1 .left) (let p = at-start .pre .1 in p .2) (step-definition _ _ _ _ _ (at-next-token .next-token .ensures) (at-is-kind .is-kind .ensures) (at-if2 .if2 .taken) (at-judge-definition .judge-definition .ensures)) (at-number .number .given .1))
     (λ c. search needs)  -- enum-known-next
-    (λ c. let p = body-falls _ _ _ _ _ _ (c .before .before .before .before .before .before .before .before .before .before .before .before .loop .inv) (c .before .before .before .before .before .before .before .before .before .before .before .next-token .ensures) (c .before .before .before .before .before .before .before .before .before .before .is-mark .ensures) (c .before .before .before .before .before .before .before .before .before .if1 .left) (let p = c .before .before .before .before .before .before .before .before .before .before .before .before .before .before .before .pre .1 in p .2) (step-definition _ _ _ _ _ (c .before .before .before .before .before .before .before .before .before .before .before .next-token .ensures) (c .before .before .before .before .before .before .before .before .is-kind .ensures) (c .before .before .before .before .before .before .before .if2 .taken) (c .before .before .before .before .before .judge-definition .ensures)) (c .before .next .given .1) in p)  -- loop-less
-    (λ c. body-goes _ _ _ _ _ _ (c .before .before .before .before .before .before .before .before .before .before .before .before .loop .inv) (c .before .before .before .before .before .before .before .before .before .before .before .next-token .ensures) (c .before .before .before .before .before .before .before .before .before .before .is-mark .ensures) (c .before .before .before .before .before .before .before .before .before .if1 .left) (let p = c .before .before .before .before .before .before .before .before .before .before .before .before .before .before .before .pre .1 in p .2) (step-definition _ _ _ _ _ (c .before .before .before .before .before .before .before .before .before .before .before .next-token .ensures) (c .before .before .before .before .before .before .before .before .is-kind .ensures) (c .before .before .before .before .before .before .before .if2 .taken) (c .before .before .before .before .before .judge-definition .ensures)) (c .before .next .given .1))  -- loop-again
-    (λ c κs. (c .before .before .before .before .before .before .loop .inv .fits, let p = c .before .before .before .before .before .before .before .before .before .pre .1 in p .2))  -- judge-statement-requires
+    -- loop-less
+    (λ c.
+    let at-next = c .before in
+    let at-judge-definition = at-next .before .before .before .before in
+    let at-if2 = at-judge-definition .before .before in
+    let at-is-kind = at-if2 .before in
+    let at-if1 = at-is-kind .before in
+    let at-is-mark = at-if1 .before in
+    let at-next-token = at-is-mark .before in
+    let at-loop = at-next-token .before in
+    let at-start = at-loop .before .before .before in
+    let p = body-falls _ _ _ _ _ _ (at-loop .loop .inv) (at-next-token .next-token .ensures) (at-is-mark .is-mark .ensures) (at-if1 .if1 .left) (let p = at-start .pre .1 in p .2) (step-definition _ _ _ _ _ (at-next-token .next-token .ensures) (at-is-kind .is-kind .ensures) (at-if2 .if2 .taken) (at-judge-definition .judge-definition .ensures)) (at-next .next .given .1) in
+    p)
+    -- loop-again
+    (λ c.
+    let at-next = c .before in
+    let at-judge-definition = at-next .before .before .before .before in
+    let at-if2 = at-judge-definition .before .before in
+    let at-is-kind = at-if2 .before in
+    let at-if1 = at-is-kind .before in
+    let at-is-mark = at-if1 .before in
+    let at-next-token = at-is-mark .before in
+    let at-loop = at-next-token .before in
+    let at-start = at-loop .before .before .before in
+    body-goes _ _ _ _ _ _ (at-loop .loop .inv) (at-next-token .next-token .ensures) (at-is-mark .is-mark .ensures) (at-if1 .if1 .left) (let p = at-start .pre .1 in p .2) (step-definition _ _ _ _ _ (at-next-token .next-token .ensures) (at-is-kind .is-kind .ensures) (at-if2 .if2 .taken) (at-judge-definition .judge-definition .ensures)) (at-next .next .given .1))
+    -- judge-statement-requires
+    (λ c κs.
+    let at-is-mark = c .before .before .before .before in
+    let at-loop = at-is-mark .before .before in
+    let at-start = at-loop .before .before .before in
+    (at-loop .loop .inv .fits, let p = at-start .pre .1 in p .2))
     (λ c. search needs)  -- enum-known-number-2
-    (λ c. statement-long (c .before .before .before .before .before .before .before .before .before .before .before .before .loop .inv) (c .before .before .before .before .before .judge-statement .ensures))  -- same-length-3
-    (λ c. body-faults _ _ _ _ _ _ (c .before .before .before .before .before .before .before .before .before .before .before .before .loop .inv) (c .before .before .before .before .before .before .before .before .before .before .before .next-token .ensures) (c .before .before .before .before .before .before .before .before .before .before .is-mark .ensures) (c .before .before .before .before .before .before .before .before .before .if1 .left) (let p = c .before .before .before .before .before .before .before .before .before .before .before .before .before .before .before .pre .1 in p .2) (step-statement _ _ _ _ _ (c .before .before .before .before .before .before .before .before .before .before .before .next-token .ensures) (c .before .before .before .before .before .before .before .before .is-kind .ensures) (c .before .before .before .before .before .before .before .if2 .left) (c .before .before .before .before .before .judge-statement .ensures)) (c .before .number2 .given .1))  -- returns-3
+    -- same-length-3
+    (λ c.
+    let at-cells3 = c .before .before .before .before in
+    let at-judge-statement = at-cells3 .before in
+    let at-is-kind = at-judge-statement .before .before .before in
+    let at-loop = at-is-kind .before .before .before .before in
+    statement-long (at-loop .loop .inv) (at-judge-statement .judge-statement .ensures))
+    -- returns-3
+    (λ c.
+    let at-number2 = c .before in
+    let at-judge-statement = at-number2 .before .before .before .before in
+    let at-if2 = at-judge-statement .before .before in
+    let at-is-kind = at-if2 .before in
+    let at-if1 = at-is-kind .before in
+    let at-is-mark = at-if1 .before in
+    let at-next-token = at-is-mark .before in
+    let at-loop = at-next-token .before in
+    let at-start = at-loop .before .before .before in
+    body-faults _ _ _ _ _ _ (at-loop .loop .inv) (at-next-token .next-token .ensures) (at-is-mark .is-mark .ensures) (at-if1 .if1 .left) (let p = at-start .pre .1 in p .2) (step-statement _ _ _ _ _ (at-next-token .next-token .ensures) (at-is-kind .is-kind .ensures) (at-if2 .if2 .left) (at-judge-statement .judge-statement .ensures)) (at-number2 .number2 .given .1))
     (λ c. search needs)  -- enum-known-next-2
-    (λ c. let p = body-falls _ _ _ _ _ _ (c .before .before .before .before .before .before .before .before .before .before .before .before .loop .inv) (c .before .before .before .before .before .before .before .before .before .before .before .next-token .ensures) (c .before .before .before .before .before .before .before .before .before .before .is-mark .ensures) (c .before .before .before .before .before .before .before .before .before .if1 .left) (let p = c .before .before .before .before .before .before .before .before .before .before .before .before .before .before .before .pre .1 in p .2) (step-statement _ _ _ _ _ (c .before .before .before .before .before .before .before .before .before .before .before .next-token .ensures) (c .before .before .before .before .before .before .before .before .is-kind .ensures) (c .before .before .before .before .before .before .before .if2 .left) (c .before .before .before .before .before .judge-statement .ensures)) (c .before .next2 .given .1) in p)  -- loop-less-2
-    (λ c. body-goes _ _ _ _ _ _ (c .before .before .before .before .before .before .before .before .before .before .before .before .loop .inv) (c .before .before .before .before .before .before .before .before .before .before .before .next-token .ensures) (c .before .before .before .before .before .before .before .before .before .before .is-mark .ensures) (c .before .before .before .before .before .before .before .before .before .if1 .left) (let p = c .before .before .before .before .before .before .before .before .before .before .before .before .before .before .before .pre .1 in p .2) (step-statement _ _ _ _ _ (c .before .before .before .before .before .before .before .before .before .before .before .next-token .ensures) (c .before .before .before .before .before .before .before .before .is-kind .ensures) (c .before .before .before .before .before .before .before .if2 .left) (c .before .before .before .before .before .judge-statement .ensures)) (c .before .next2 .given .1)))  -- loop-again-2
+    -- loop-less-2
+    (λ c.
+    let at-next2 = c .before in
+    let at-judge-statement = at-next2 .before .before .before .before in
+    let at-if2 = at-judge-statement .before .before in
+    let at-is-kind = at-if2 .before in
+    let at-if1 = at-is-kind .before in
+    let at-is-mark = at-if1 .before in
+    let at-next-token = at-is-mark .before in
+    let at-loop = at-next-token .before in
+    let at-start = at-loop .before .before .before in
+    let p = body-falls _ _ _ _ _ _ (at-loop .loop .inv) (at-next-token .next-token .ensures) (at-is-mark .is-mark .ensures) (at-if1 .if1 .left) (let p = at-start .pre .1 in p .2) (step-statement _ _ _ _ _ (at-next-token .next-token .ensures) (at-is-kind .is-kind .ensures) (at-if2 .if2 .left) (at-judge-statement .judge-statement .ensures)) (at-next2 .next2 .given .1) in
+    p)
+    -- loop-again-2
+    (λ c.
+    let at-next2 = c .before in
+    let at-judge-statement = at-next2 .before .before .before .before in
+    let at-if2 = at-judge-statement .before .before in
+    let at-is-kind = at-if2 .before in
+    let at-if1 = at-is-kind .before in
+    let at-is-mark = at-if1 .before in
+    let at-next-token = at-is-mark .before in
+    let at-loop = at-next-token .before in
+    let at-start = at-loop .before .before .before in
+    body-goes _ _ _ _ _ _ (at-loop .loop .inv) (at-next-token .next-token .ensures) (at-is-mark .is-mark .ensures) (at-if1 .if1 .left) (let p = at-start .pre .1 in p .2) (step-statement _ _ _ _ _ (at-next-token .next-token .ensures) (at-is-kind .is-kind .ensures) (at-if2 .if2 .left) (at-judge-statement .judge-statement .ensures)) (at-next2 .next2 .given .1)))
     λ t. judge-definition-lts.spec (judge-definition-claims t) (judge-definition-at t) judge-definition.Post
     (λ c κs. search needs)  -- read-header-requires
     (λ c. search needs)  -- enum-known-place
@@ -95,19 +197,123 @@ pub +judge-body+judge-definition-spec : {M : Type 1} → statement M
     (λ c. search needs)  -- enum-known-number
     (λ c. search needs)  -- enum-told
     (λ c. search needs)  -- same-length
-    (λ c. def-deep _ _ _ _ _ (c .before .before .before .before .before .before .before .before .read-header .ensures) (c .before .before .before .before .before .before .header .given .1) (c .before .before .before .header-fault .ensures) (c .if1 .taken))  -- returns
+    -- returns
+    (λ c.
+    let at-header-fault = c .before .before .before in
+    let at-header = at-header-fault .before .before .before in
+    let at-read-header = at-header .before .before in
+    def-deep _ _ _ _ _ (at-read-header .read-header .ensures) (at-header .header .given .1) (at-header-fault .header-fault .ensures) (c .if1 .taken))
     (λ c κs. search needs)  -- inner-scope-requires
-    (λ c κs. def-few _ _ _ _ 0 (c .before .before .before .before .before .before .before .before .before .read-header .ensures) (c .before .before .before .before .before .before .before .header .given .1) (c .before .before .before .before .header-fault .ensures) (c .before .before .enum-told .given .1) (c .before .before .before .before .before .before .before .before .before .before .before .before .pre .1))  -- opening-walk-requires
+    -- opening-walk-requires
+    (λ c κs.
+    let at-enum-told = c .before .before in
+    let at-header-fault = at-enum-told .before .before in
+    let at-header = at-header-fault .before .before .before in
+    let at-read-header = at-header .before .before in
+    let at-start = at-read-header .before .before .before in
+    def-few _ _ _ _ 0 (at-read-header .read-header .ensures) (at-header .header .given .1) (at-header-fault .header-fault .ensures) (at-enum-told .enum-told .given .1) (at-start .pre .1))
     (λ c. search needs)  -- sub-judge-body
-    (λ c κs. (omega (arith, c .before .before .before .before .before .before .before .before .before .before .before .before .before .before .pre .0, c .before .before .before .if1 .left), def-opens _ _ _ _ 0 (c .before .before .before .before .before .before .before .before .before .before .before .read-header .ensures) (c .before .before .before .before .before .before .before .before .before .header .given .1) (c .before .before .before .before .before .before .header-fault .ensures) (c .before .before .before .before .enum-told .given .1) (c .before .before .before .before .before .before .before .before .before .before .before .before .before .before .pre .1) (c .before .before .inner-scope .ensures) (c .before .opening-walk .ensures)))  -- judge-body-requires
+    -- judge-body-requires
+    (λ c κs.
+    let at-opening-walk = c .before in
+    let at-inner-scope = at-opening-walk .before in
+    let at-if1 = at-inner-scope .before in
+    let at-enum-told = at-if1 .before in
+    let at-header-fault = at-enum-told .before .before in
+    let at-header = at-header-fault .before .before .before in
+    let at-read-header = at-header .before .before in
+    let at-start = at-read-header .before .before .before in
+    (omega (arith, at-start .pre .0, at-if1 .if1 .left), def-opens _ _ _ _ 0 (at-read-header .read-header .ensures) (at-header .header .given .1) (at-header-fault .header-fault .ensures) (at-enum-told .enum-told .given .1) (at-start .pre .1) (at-inner-scope .inner-scope .ensures) (at-opening-walk .opening-walk .ensures)))
     (λ c. search needs)  -- enum-known-number-2
     (λ c. search needs)  -- enum-known-made
-    (λ c κs. def-some _ _ _ _ _ (c .before .before .before .before .before .before .before .before .before .before .before .before .before .before .before .before .before .read-header .ensures) (c .before .before .before .before .before .before .before .before .before .before .before .before .before .before .before .header .given .1) (c .before .before .before .before .before .before .before .before .before .before .before .before .header-fault .ensures) (c .before .before .before .before .before .before .before .before .before .before .enum-told .given .1) (c .before .before .before .before .before .before .before .before .before .before .before .before .before .before .before .before .before .before .before .before .pre .1) (c .before .before .before .before .before .before .before .before .before .if1 .left) (c .before .before .before .before .before .before .before .before .inner-scope .ensures) (c .before .before .before .before .before .before .before .opening-walk .ensures) (c .before .before .before .before .before .judge-body .ensures) (c .before .made .given .1))  -- after-body-requires
-    (λ c κs. def-after _ _ _ _ _ (c .before .before .before .before .before .before .before .before .before .before .before .before .before .before .before .before .before .before .before .read-header .ensures) (c .before .before .before .before .before .before .before .before .before .before .before .before .before .before .before .before .before .header .given .1) (c .before .before .before .before .before .before .before .before .before .before .before .before .before .before .header-fault .ensures) (c .before .before .before .before .before .before .before .before .before .before .before .before .enum-told .given .1) (c .before .before .before .before .before .before .before .before .before .before .before .before .before .before .before .before .before .before .before .before .before .before .pre .1) (c .before .before .before .before .before .before .before .before .before .before .before .if1 .left) (c .before .before .before .before .before .before .before .before .before .before .inner-scope .ensures) (c .before .before .before .before .before .before .before .before .before .opening-walk .ensures) (c .before .before .before .before .before .before .before .judge-body .ensures) (c .before .before .before .made .given .1) (c .before .after-body .ensures))  -- judge-tail-requires
+    -- after-body-requires
+    (λ c κs.
+    let at-made = c .before in
+    let at-judge-body = at-made .before .before .before .before in
+    let at-opening-walk = at-judge-body .before .before in
+    let at-inner-scope = at-opening-walk .before in
+    let at-if1 = at-inner-scope .before in
+    let at-enum-told = at-if1 .before in
+    let at-header-fault = at-enum-told .before .before in
+    let at-header = at-header-fault .before .before .before in
+    let at-read-header = at-header .before .before in
+    let at-start = at-read-header .before .before .before in
+    def-some _ _ _ _ _ (at-read-header .read-header .ensures) (at-header .header .given .1) (at-header-fault .header-fault .ensures) (at-enum-told .enum-told .given .1) (at-start .pre .1) (at-if1 .if1 .left) (at-inner-scope .inner-scope .ensures) (at-opening-walk .opening-walk .ensures) (at-judge-body .judge-body .ensures) (at-made .made .given .1))
+    -- judge-tail-requires
+    (λ c κs.
+    let at-after-body = c .before in
+    let at-made = at-after-body .before .before in
+    let at-judge-body = at-made .before .before .before .before in
+    let at-opening-walk = at-judge-body .before .before in
+    let at-inner-scope = at-opening-walk .before in
+    let at-if1 = at-inner-scope .before in
+    let at-enum-told = at-if1 .before in
+    let at-header-fault = at-enum-told .before .before in
+    let at-header = at-header-fault .before .before .before in
+    let at-read-header = at-header .before .before in
+    let at-start = at-read-header .before .before .before in
+    def-after _ _ _ _ _ (at-read-header .read-header .ensures) (at-header .header .given .1) (at-header-fault .header-fault .ensures) (at-enum-told .enum-told .given .1) (at-start .pre .1) (at-if1 .if1 .left) (at-inner-scope .inner-scope .ensures) (at-opening-walk .opening-walk .ensures) (at-judge-body .judge-body .ensures) (at-made .made .given .1) (at-after-body .after-body .ensures))
     (λ c. def-stop _ _ _ _ _ (c .before .before .before .read-header .ensures) (c .before .place .given .1))  -- returns-2
     (λ c. search needs)  -- same-length-2
-    (λ c. def-broken _ _ _ _ _ (c .before .before .before .before .before .before .before .before .read-header .ensures) (c .before .before .before .before .before .before .header .given .1) (c .before .before .before .header-fault .ensures) (c .before .number .given .1))  -- returns-3
-    (λ c. def-long _ _ _ _ _ (c .before .before .before .before .before .before .before .before .before .before .before .before .before .before .before .before .before .read-header .ensures) (c .before .before .before .before .before .before .before .before .before .before .before .before .before .before .before .header .given .1) (c .before .before .before .before .before .before .before .before .before .before .before .before .header-fault .ensures) (c .before .before .before .before .before .before .before .before .before .before .enum-told .given .1) (c .before .before .before .before .before .before .before .before .before .before .before .before .before .before .before .before .before .before .before .before .pre .1) (c .before .before .before .before .before .before .before .before .before .if1 .left) (c .before .before .before .before .before .before .before .before .inner-scope .ensures) (c .before .before .before .before .before .before .before .opening-walk .ensures) (c .before .before .before .before .before .judge-body .ensures))  -- same-length-3
-    (λ c. def-body _ _ _ _ _ (c .before .before .before .before .before .before .before .before .before .before .before .before .before .before .before .before .before .read-header .ensures) (c .before .before .before .before .before .before .before .before .before .before .before .before .before .before .before .header .given .1) (c .before .before .before .before .before .before .before .before .before .before .before .before .header-fault .ensures) (c .before .before .before .before .before .before .before .before .before .before .enum-told .given .1) (c .before .before .before .before .before .before .before .before .before .before .before .before .before .before .before .before .before .before .before .before .pre .1) (c .before .before .before .before .before .before .before .before .before .if1 .left) (c .before .before .before .before .before .before .before .before .inner-scope .ensures) (c .before .before .before .before .before .before .before .opening-walk .ensures) (c .before .before .before .before .before .judge-body .ensures) (c .before .number2 .given .1))  -- returns-4
-    (λ c. def-tail-long _ _ _ _ _ (c .before .before .before .before .before .before .before .before .before .before .before .before .before .before .before .before .before .before .before .before .before .before .read-header .ensures) (c .before .before .before .before .before .before .before .before .before .before .before .before .before .before .before .before .before .before .before .before .header .given .1) (c .before .before .before .before .before .before .before .before .before .before .before .before .before .before .before .before .before .header-fault .ensures) (c .before .before .before .before .before .before .before .before .before .before .before .before .before .before .before .enum-told .given .1) (c .before .before .before .before .before .before .before .before .before .before .before .before .before .before .before .before .before .before .before .before .before .before .before .before .before .pre .1) (c .before .before .before .before .before .before .before .before .before .before .before .before .before .before .if1 .left) (c .before .before .before .before .before .before .before .before .before .before .before .before .before .inner-scope .ensures) (c .before .before .before .before .before .before .before .before .before .before .before .before .opening-walk .ensures) (c .before .before .before .before .before .before .before .before .before .before .judge-body .ensures) (c .before .before .before .before .before .before .made .given .1) (c .before .before .judge-tail .ensures))  -- same-length-4
-    (λ c. def-tail _ _ _ _ _ (c .before .before .before .before .before .before .before .before .before .before .before .before .before .before .before .before .before .before .before .before .before .before .read-header .ensures) (c .before .before .before .before .before .before .before .before .before .before .before .before .before .before .before .before .before .before .before .before .header .given .1) (c .before .before .before .before .before .before .before .before .before .before .before .before .before .before .before .before .before .header-fault .ensures) (c .before .before .before .before .before .before .before .before .before .before .before .before .before .before .before .enum-told .given .1) (c .before .before .before .before .before .before .before .before .before .before .before .before .before .before .before .before .before .before .before .before .before .before .before .before .before .pre .1) (c .before .before .before .before .before .before .before .before .before .before .before .before .before .before .if1 .left) (c .before .before .before .before .before .before .before .before .before .before .before .before .before .inner-scope .ensures) (c .before .before .before .before .before .before .before .before .before .before .before .before .opening-walk .ensures) (c .before .before .before .before .before .before .before .before .before .before .judge-body .ensures) (c .before .before .before .before .before .before .made .given .1) (c .before .before .before .before .after-body .ensures) (c .before .before .judge-tail .ensures))  -- returns-5
+    -- returns-3
+    (λ c.
+    let at-number = c .before in
+    let at-header-fault = at-number .before .before in
+    let at-header = at-header-fault .before .before .before in
+    let at-read-header = at-header .before .before in
+    def-broken _ _ _ _ _ (at-read-header .read-header .ensures) (at-header .header .given .1) (at-header-fault .header-fault .ensures) (at-number .number .given .1))
+    -- same-length-3
+    (λ c.
+    let at-cells = c .before .before .before .before in
+    let at-judge-body = at-cells .before in
+    let at-opening-walk = at-judge-body .before .before in
+    let at-inner-scope = at-opening-walk .before in
+    let at-if1 = at-inner-scope .before in
+    let at-enum-told = at-if1 .before in
+    let at-header-fault = at-enum-told .before .before in
+    let at-header = at-header-fault .before .before .before in
+    let at-read-header = at-header .before .before in
+    let at-start = at-read-header .before .before .before in
+    def-long _ _ _ _ _ (at-read-header .read-header .ensures) (at-header .header .given .1) (at-header-fault .header-fault .ensures) (at-enum-told .enum-told .given .1) (at-start .pre .1) (at-if1 .if1 .left) (at-inner-scope .inner-scope .ensures) (at-opening-walk .opening-walk .ensures) (at-judge-body .judge-body .ensures))
+    -- returns-4
+    (λ c.
+    let at-number2 = c .before in
+    let at-judge-body = at-number2 .before .before .before .before in
+    let at-opening-walk = at-judge-body .before .before in
+    let at-inner-scope = at-opening-walk .before in
+    let at-if1 = at-inner-scope .before in
+    let at-enum-told = at-if1 .before in
+    let at-header-fault = at-enum-told .before .before in
+    let at-header = at-header-fault .before .before .before in
+    let at-read-header = at-header .before .before in
+    let at-start = at-read-header .before .before .before in
+    def-body _ _ _ _ _ (at-read-header .read-header .ensures) (at-header .header .given .1) (at-header-fault .header-fault .ensures) (at-enum-told .enum-told .given .1) (at-start .pre .1) (at-if1 .if1 .left) (at-inner-scope .inner-scope .ensures) (at-opening-walk .opening-walk .ensures) (at-judge-body .judge-body .ensures) (at-number2 .number2 .given .1))
+    -- same-length-4
+    (λ c.
+    let at-judge-tail = c .before .before in
+    let at-made = at-judge-tail .before .before .before .before in
+    let at-judge-body = at-made .before .before .before .before in
+    let at-opening-walk = at-judge-body .before .before in
+    let at-inner-scope = at-opening-walk .before in
+    let at-if1 = at-inner-scope .before in
+    let at-enum-told = at-if1 .before in
+    let at-header-fault = at-enum-told .before .before in
+    let at-header = at-header-fault .before .before .before in
+    let at-read-header = at-header .before .before in
+    let at-start = at-read-header .before .before .before in
+    def-tail-long _ _ _ _ _ (at-read-header .read-header .ensures) (at-header .header .given .1) (at-header-fault .header-fault .ensures) (at-enum-told .enum-told .given .1) (at-start .pre .1) (at-if1 .if1 .left) (at-inner-scope .inner-scope .ensures) (at-opening-walk .opening-walk .ensures) (at-judge-body .judge-body .ensures) (at-made .made .given .1) (at-judge-tail .judge-tail .ensures))
+    -- returns-5
+    (λ c.
+    let at-judge-tail = c .before .before in
+    let at-after-body = at-judge-tail .before .before in
+    let at-made = at-after-body .before .before in
+    let at-judge-body = at-made .before .before .before .before in
+    let at-opening-walk = at-judge-body .before .before in
+    let at-inner-scope = at-opening-walk .before in
+    let at-if1 = at-inner-scope .before in
+    let at-enum-told = at-if1 .before in
+    let at-header-fault = at-enum-told .before .before in
+    let at-header = at-header-fault .before .before .before in
+    let at-read-header = at-header .before .before in
+    let at-start = at-read-header .before .before .before in
+    def-tail _ _ _ _ _ (at-read-header .read-header .ensures) (at-header .header .given .1) (at-header-fault .header-fault .ensures) (at-enum-told .enum-told .given .1) (at-start .pre .1) (at-if1 .if1 .left) (at-inner-scope .inner-scope .ensures) (at-opening-walk .opening-walk .ensures) (at-judge-body .judge-body .ensures) (at-made .made .given .1) (at-after-body .after-body .ensures) (at-judge-tail .judge-tail .ensures))

@@ -10,12 +10,12 @@ pub define-spec : {M : Type 1} → statement M
 define-spec =
     tie.close
     (tie.spec
-    (λ c κs. search needs)
-    (λ c. search needs)
-    (λ c. search needs)
-    (λ c κs. search needs)
-    (λ c. search needs)
-    (λ c. search needs)
+    (λ c κs. search needs)  -- first-refusal-requires
+    (λ c. search needs)  -- enum-known-number
+    (λ c. search needs)  -- enum-told
+    (λ c κs. search needs)  -- first-refusal-requires-2
+    (λ c. search needs)  -- enum-known-number-2
+    (λ c. search needs)  -- enum-told-2
     -- judge-file-requires
     (λ c κs.
     let fine-words = c .before .before .before .before in
@@ -27,7 +27,7 @@ define-spec =
     let sentences = c .before .before .before in
     let fine-words = sentences .before in
     (ruled-sentences _ [] (fine-words .before .before .first-refusal .ensures .0) (fine-words .enum-told .given .1) (sentences .first-refusal2 .ensures .0) (c .before .number2 .given .1), worked-untouched _ _))
-    (λ c. search needs)
+    (λ c. search needs)  -- same-length
     -- returns-3: the rules
     (λ c.
     let rules = c .before .before in

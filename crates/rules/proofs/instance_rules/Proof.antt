@@ -1,3 +1,4 @@
+-- 6 for a name that is held, 10 for a kind that may not stand there, then what its suffixes break.
 use borrow.Author.Needs.{needs}
 use borrow.Author.Tests.{not-false, not-true}
 use Rattle.rules.proofs.Instances.{rules-twice, rules-kind, rules-rest}
@@ -8,11 +9,11 @@ pub instance-rules-spec : {M : Type 1} → statement M
 instance-rules-spec =
     tie.close
     (tie.spec
-    (λ c. search needs)
-    (λ c. search needs)
-    (λ c κs. search needs)
-    (λ c. search rules-twice)
-    (λ c κs. search needs)
-    (λ c. search (rules-kind, not-true))
-    (λ c κs. search needs)
-    (λ c. search (rules-rest, not-false)))
+    (λ c. search needs)  -- add-is-held
+    (λ c. search needs)  -- add-is-held-2
+    (λ c κs. search needs)  -- is-held-requires
+    (λ c. search rules-twice)  -- returns
+    (λ c κs. search needs)  -- may-hold-requires
+    (λ c. search (rules-kind, not-true))  -- returns-2
+    (λ c κs. search needs)  -- instance-fault-requires
+    (λ c. search (rules-rest, not-false)))  -- returns-3

@@ -1,9 +1,9 @@
+-- What is left of the file comes to the same ruling from every definition that the loop passes.
 use borrow.Author.Needs.{needs}
-use native.Mathlib.Omega.{arith}
 use Prim.Native.Nat.{_-_}
-use mathlib.Core.Path.{_≡_, refl, _∙_}
+use mathlib.Core.Path.{_≡_, _∙_}
 use lib.ListN.{length}
-use Rattle.places.specs.Walks.{rootScope}
+use Rattle.scopes.specs.Walks.{rootScope}
 use Rattle.rules.proofs.Loops.{FileGoing, file-start, file-ends, file-faults, file-goes, file-falls}
 use Rattle.rules.proofs.judge_file.Statement.{statement}
 use Rattle.rules.proofs.judge_file.Tie as tie
@@ -20,18 +20,51 @@ judge-file-spec =
     (tie.spec
     Inv-loop
     μ-loop
-    (λ c κs. search needs)
-    (λ c κs. search needs)
+    (λ c κs. search needs)  -- root-scope-requires
+    (λ c κs. search needs)  -- root-walk-requires
+    -- loop-holds
     (λ c. (rw (c .root-walk .ensures) (file-start _ _ (c .before .before .before .before .pre)), c .before .root-scope .ensures))
-    (λ c κs. search needs)
-    (λ c κs. search needs)
-    (λ c κs. search needs)
-    (λ c. c .before .before .before .before .loop .inv .0 .long)
+    (λ c κs. search needs)  -- next-token-requires
+    (λ c κs. search needs)  -- is-end-requires
+    (λ c κs. search needs)  -- ruling-of-requires
+    (λ c. c .before .before .before .before .loop .inv .0 .long)  -- same-length
+    -- returns
     (λ c. file-ends _ _ (c .before .before .before .before .loop .inv .0) (c .before .before .before .next-token .ensures) (c .before .before .is-end .ensures) (c .before .if1 .taken) (c .ruling-of .ensures))
+    -- judge-definition-requires
     (λ c κs. rw (c .before .before .before .before .loop .inv .1) (c .before .before .before .before .loop .inv .0 .fits))
-    (λ c. search needs)
-    (λ c. c .before .before .before .before .before .judge-definition .ensures .kept .long ∙ c .before .before .before .before .before .before .before .before .before .before .loop .inv .0 .long)
-    (λ c. file-faults _ _ (c .before .before .before .before .before .before .before .before .before .before .loop .inv .0) (c .before .before .before .before .before .before .before .before .before .next-token .ensures) (c .before .before .before .before .before .before .before .before .is-end .ensures) (c .before .before .before .before .before .before .before .if1 .left) (rw (c .before .before .before .before .before .before .before .before .before .before .loop .inv .1) at (c .before .before .before .before .before .judge-definition .ensures)) (c .before .number .given .1))
-    (λ c. search needs)
-    (λ c. file-falls _ _ (c .before .before .before .before .before .before .before .before .before .before .loop .inv .0) (c .before .before .before .before .before .before .before .before .before .next-token .ensures) (c .before .before .before .before .before .before .before .before .is-end .ensures) (c .before .before .before .before .before .before .before .if1 .left) (rw (c .before .before .before .before .before .before .before .before .before .before .loop .inv .1) at (c .before .before .before .before .before .judge-definition .ensures)) (c .before .next .given .1))
-    (λ c. (file-goes _ _ (c .before .before .before .before .before .before .before .before .before .before .loop .inv .0) (c .before .before .before .before .before .before .before .before .before .next-token .ensures) (c .before .before .before .before .before .before .before .before .is-end .ensures) (c .before .before .before .before .before .before .before .if1 .left) (rw (c .before .before .before .before .before .before .before .before .before .before .loop .inv .1) at (c .before .before .before .before .before .judge-definition .ensures)) (c .before .next .given .1), c .before .before .before .before .before .before .before .before .before .before .loop .inv .1)))
+    (λ c. search needs)  -- enum-known-number
+    -- same-length-2
+    (λ c.
+    let at-cells = c .before .before .before .before in
+    let at-judge-definition = at-cells .before in
+    let at-next-token = at-judge-definition .before .before .before .before in
+    let at-loop = at-next-token .before in
+    at-judge-definition .judge-definition .ensures .kept .long ∙ at-loop .loop .inv .0 .long)
+    -- returns-2
+    (λ c.
+    let at-number = c .before in
+    let at-judge-definition = at-number .before .before .before .before in
+    let at-if1 = at-judge-definition .before .before in
+    let at-is-end = at-if1 .before in
+    let at-next-token = at-is-end .before in
+    let at-loop = at-next-token .before in
+    file-faults _ _ (at-loop .loop .inv .0) (at-next-token .next-token .ensures) (at-is-end .is-end .ensures) (at-if1 .if1 .left) (rw (at-loop .loop .inv .1) at (at-judge-definition .judge-definition .ensures)) (at-number .number .given .1))
+    (λ c. search needs)  -- enum-known-next
+    -- loop-less
+    (λ c.
+    let at-next = c .before in
+    let at-judge-definition = at-next .before .before .before .before in
+    let at-if1 = at-judge-definition .before .before in
+    let at-is-end = at-if1 .before in
+    let at-next-token = at-is-end .before in
+    let at-loop = at-next-token .before in
+    file-falls _ _ (at-loop .loop .inv .0) (at-next-token .next-token .ensures) (at-is-end .is-end .ensures) (at-if1 .if1 .left) (rw (at-loop .loop .inv .1) at (at-judge-definition .judge-definition .ensures)) (at-next .next .given .1))
+    -- loop-again
+    (λ c.
+    let at-next = c .before in
+    let at-judge-definition = at-next .before .before .before .before in
+    let at-if1 = at-judge-definition .before .before in
+    let at-is-end = at-if1 .before in
+    let at-next-token = at-is-end .before in
+    let at-loop = at-next-token .before in
+    (file-goes _ _ (at-loop .loop .inv .0) (at-next-token .next-token .ensures) (at-is-end .is-end .ensures) (at-if1 .if1 .left) (rw (at-loop .loop .inv .1) at (at-judge-definition .judge-definition .ensures)) (at-next .next .given .1), at-loop .loop .inv .1)))

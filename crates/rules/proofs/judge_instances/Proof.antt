@@ -3,6 +3,7 @@ use Prim.Native.Nat.{_-_, _<_}
 use native.Mathlib.Omega.{arith}
 use lib.ListN.{length}
 use borrow.Author.Needs.{needs}
+use Rattle.cells.specs.Cells.{instanceRoom}
 use Rattle.rules.proofs.Listing.{Going, going-start, going-stop, item-room, item-low, item-falls, going-long, going-broken, going-last, going-more}
 use Rattle.rules.proofs.judge_instances.Statement.{statement}
 use Rattle.rules.proofs.judge_instances.Tie as tie
@@ -18,7 +19,10 @@ same-length c = c .before .before .before .before .loop .inv .kept 0 0 (omega ar
 
 add-held : tie.Need-add-held Inv-loop μ-loop
 add-held c =
-    let w : c .before .before .before .before .before .before .before .before .before .before .before .loop .held < 32768 = search item-room in
+    let at-add-instance = c .before .before .before .before in
+    let at-listed = at-add-instance .before .before .before .before in
+    let at-loop = at-listed .before .before .before in
+    let w : at-loop .loop .held < instanceRoom = search item-room in
     omega (arith, w)
 
 pub judge-instances-spec : {M : Type 1} → statement M
@@ -27,19 +31,19 @@ judge-instances-spec =
     (tie.spec
     Inv-loop
     μ-loop
-    (λ c. going-start _ _ _ _ _ _ _)
-    (λ c κs. search needs)
-    (λ c. search needs)
+    (λ c. going-start _ _ _ _ _ _ _)  -- loop-holds
+    (λ c κs. search needs)  -- read-listed-requires
+    (λ c. search needs)  -- enum-known-number
     same-length
-    (λ c. search going-stop)
-    (λ c. search needs)
-    (λ c κs. search (needs, item-room, item-low))
-    (λ c. search needs)
-    (λ c. search going-long)
-    (λ c. search going-broken)
-    (λ c. search needs)
+    (λ c. search going-stop)  -- returns
+    (λ c. search needs)  -- enum-known-listed
+    (λ c κs. search (needs, item-room, item-low))  -- add-instance-requires
+    (λ c. search needs)  -- enum-known-number-2
+    (λ c. search going-long)  -- same-length-2
+    (λ c. search going-broken)  -- returns-2
+    (λ c. search needs)  -- enum-told
     add-held
-    (λ c. search going-long)
-    (λ c. search going-last)
-    (λ c. search item-falls)
-    (λ c. search going-more))
+    (λ c. search going-long)  -- same-length-3
+    (λ c. search going-last)  -- returns-3
+    (λ c. search item-falls)  -- loop-less
+    (λ c. search going-more))  -- loop-again

@@ -1,3 +1,4 @@
+-- Each kind of suffix is barred by its own clause: fields, arrays and the address decide.
 use borrow.Author.Needs.{needs}
 use Rattle.suffixes.specs.Suffixes.{isBarred}
 use Rattle.suffixes.proofs.is_barred.Statement.{statement}
@@ -8,15 +9,15 @@ unfolding isBarred
 is-barred-spec =
     tie.close
     (tie.spec
-    (λ c. search needs)
-    (λ c. search needs)
-    (λ c. search needs)
-    (λ c κs. search needs)
-    (λ c κs. search needs)
-    (λ c. search needs)
-    (λ c κs. search needs)
-    (λ c κs. search needs)
-    (λ c. rw (c .enum-told .given .1))
-    (λ c. rw (c .enum-told2 .given .1))
-    (λ c. rw (c .before .before .enum-told3 .given .1, ← c .before .is-array .ensures) (c .either .ensures))
-    (λ c. rw (c .before .before .enum-told4 .given .1, ← c .before .is-given .ensures) (c .either2 .ensures)))
+    (λ c. search needs)  -- enum-told
+    (λ c. search needs)  -- enum-told-2
+    (λ c. search needs)  -- enum-told-3
+    (λ c κs. search needs)  -- is-array-requires
+    (λ c κs. search needs)  -- either-requires
+    (λ c. search needs)  -- enum-told-4
+    (λ c κs. search needs)  -- is-given-requires
+    (λ c κs. search needs)  -- either-requires-2
+    (λ c. rw (c .enum-told .given .1))  -- returns
+    (λ c. rw (c .enum-told2 .given .1))  -- returns-2
+    (λ c. rw (c .before .before .enum-told3 .given .1, ← c .before .is-array .ensures) (c .either .ensures))  -- returns-3
+    (λ c. rw (c .before .before .enum-told4 .given .1, ← c .before .is-given .ensures) (c .either2 .ensures)))  -- returns-4

@@ -1,4 +1,4 @@
-use borrow.Author.Needs.{needs}
+-- A range does not rise from left to right and lies below 64.
 use Rattle.suffixes.specs.Suffixes.{isRange}
 use borrow.Author.Tests.{le-leb, lt-leb}
 use Rattle.suffixes.proofs.is_range.Statement.{statement}
@@ -9,5 +9,5 @@ unfolding isRange
 is-range-spec =
     tie.close
     (tie.spec
-    (λ c. rw (lt-leb _ _ (c .if1 .taken)))
-    (λ c. rw (le-leb _ _ (c .if1 .left))))
+    (λ c. rw (lt-leb _ _ (c .if1 .taken)))  -- returns
+    (λ c. rw (le-leb _ _ (c .if1 .left))))  -- returns-2

@@ -19,7 +19,7 @@ use Rattle.syntax.proofs.read_statement.Reads as read-statement-reads
 use Rattle.syntax.proofs.read_tail.Reads as read-tail-reads
 use Rattle.syntax.proofs.+read_body+read_definition.{statement}
 use Rattle.syntax.proofs.+read_body+read_definition.Tie.{close}
-use mathlib.Core.Path.{_≡_, refl}
+use mathlib.Core.Path.{refl}
 use lib.ListN.{length}
 use Rattle.syntax.specs.Grammar.{elementsAt, definitionAt, bodyAt}
 use Rattle.syntax.specs.Answers.{answerOf}
@@ -72,63 +72,141 @@ pub +read-body+read-definition-spec : {M : Type 1} → statement M
     (loop-holds t)
     (λ c κs. search needs)  -- next-token-requires
     (λ c κs. search needs)  -- is-mark-requires
-    (λ c. let l = c .before .before .before .loop in body-close _ _ (l .at) (l .inv) (c .before .before .next-token .ensures) (c .before .is-mark .ensures) (c .if1 .taken))  -- returns
+    -- returns
+    (λ c. let l = c .before .before .before .loop in body-close _ _ (l .at) (l .inv) (c .before .before .next-token .ensures) (c .before .is-mark .ensures) (c .if1 .taken))
     (λ c κs. search needs)  -- is-kind-requires
     (λ c κs. (omega arith, tt))  -- read-definition-requires
     (λ c. search needs)  -- enum-known-next
+    -- loop-less
     (λ c.
-    let l = c .before .before .before .before .before .before .before .before .before .loop in
-    let a = c .before .before .before .before .before .before .before .before .before .before .before .args in
-    let k = c .before .before .before .before .before .before .before .before .next-token .ensures in
-    let which = element-definition (definitionAt (a .bodies) (a .text .now)) _ (l .at) k (c .before .before .before .before .before .is-kind .ensures) (c .before .before .before .before .if2 .taken) in
-    let p = body-past _ _ (l .at) (l .inv) k (c .before .before .before .before .before .before .before .is-mark .ensures) (c .before .before .before .before .before .before .if1 .left) which (c .before .before .before .read-definition .ensures .0) (definition-ends _ _) (c .before .next .given .1) in
-    omega arith)  -- loop-less
+    let at-next = c .before in
+    let at-read-definition = at-next .before .before in
+    let at-if2 = at-read-definition .before in
+    let at-is-kind = at-if2 .before in
+    let at-if1 = at-is-kind .before in
+    let at-is-mark = at-if1 .before in
+    let at-next-token = at-is-mark .before in
+    let at-loop = at-next-token .before in
+    let at-start = at-loop .before .before in
+    let l = at-loop .loop in
+    let a = at-start .args in
+    let k = at-next-token .next-token .ensures in
+    let which = element-definition (definitionAt (a .bodies) (a .text .now)) _ (l .at) k (at-is-kind .is-kind .ensures) (at-if2 .if2 .taken) in
+    let p = body-past _ _ (l .at) (l .inv) k (at-is-mark .is-mark .ensures) (at-if1 .if1 .left) which (at-read-definition .read-definition .ensures .0) (definition-ends _ _) (at-next .next .given .1) in
+    omega arith)
+    -- loop-again
     (λ c.
-    let l = c .before .before .before .before .before .before .before .before .before .loop in
-    let a = c .before .before .before .before .before .before .before .before .before .before .before .args in
-    let k = c .before .before .before .before .before .before .before .before .next-token .ensures in
-    let which = element-definition (definitionAt (a .bodies) (a .text .now)) _ (l .at) k (c .before .before .before .before .before .is-kind .ensures) (c .before .before .before .before .if2 .taken) in
-    body-more _ _ (l .at) (l .inv) k (c .before .before .before .before .before .before .before .is-mark .ensures) (c .before .before .before .before .before .before .if1 .left) which (c .before .before .before .read-definition .ensures .0) (definition-ends _ _) (c .before .next .given .1))  -- loop-again
+    let at-next = c .before in
+    let at-read-definition = at-next .before .before in
+    let at-if2 = at-read-definition .before in
+    let at-is-kind = at-if2 .before in
+    let at-if1 = at-is-kind .before in
+    let at-is-mark = at-if1 .before in
+    let at-next-token = at-is-mark .before in
+    let at-loop = at-next-token .before in
+    let at-start = at-loop .before .before in
+    let l = at-loop .loop in
+    let a = at-start .args in
+    let k = at-next-token .next-token .ensures in
+    let which = element-definition (definitionAt (a .bodies) (a .text .now)) _ (l .at) k (at-is-kind .is-kind .ensures) (at-if2 .if2 .taken) in
+    body-more _ _ (l .at) (l .inv) k (at-is-mark .is-mark .ensures) (at-if1 .if1 .left) which (at-read-definition .read-definition .ensures .0) (definition-ends _ _) (at-next .next .given .1))
     (λ c. search needs)  -- enum-known-number
+    -- returns-2
     (λ c.
-    let l = c .before .before .before .before .before .before .before .before .before .loop in
-    let a = c .before .before .before .before .before .before .before .before .before .before .before .args in
-    let k = c .before .before .before .before .before .before .before .before .next-token .ensures in
-    let which = element-definition (definitionAt (a .bodies) (a .text .now)) _ (l .at) k (c .before .before .before .before .before .is-kind .ensures) (c .before .before .before .before .if2 .taken) in
-    body-stop _ _ (l .at) (l .inv) k (c .before .before .before .before .before .before .before .is-mark .ensures) (c .before .before .before .before .before .before .if1 .left) which (c .before .before .before .read-definition .ensures .0) (c .before .number .given .1))  -- returns-2
+    let at-number = c .before in
+    let at-read-definition = at-number .before .before in
+    let at-if2 = at-read-definition .before in
+    let at-is-kind = at-if2 .before in
+    let at-if1 = at-is-kind .before in
+    let at-is-mark = at-if1 .before in
+    let at-next-token = at-is-mark .before in
+    let at-loop = at-next-token .before in
+    let at-start = at-loop .before .before in
+    let l = at-loop .loop in
+    let a = at-start .args in
+    let k = at-next-token .next-token .ensures in
+    let which = element-definition (definitionAt (a .bodies) (a .text .now)) _ (l .at) k (at-is-kind .is-kind .ensures) (at-if2 .if2 .taken) in
+    body-stop _ _ (l .at) (l .inv) k (at-is-mark .is-mark .ensures) (at-if1 .if1 .left) which (at-read-definition .read-definition .ensures .0) (at-number .number .given .1))
     (λ c κs. search needs)  -- read-statement-requires
     (λ c. search needs)  -- enum-known-next-2
+    -- loop-less-2
     (λ c.
-    let l = c .before .before .before .before .before .before .before .before .before .loop in
-    let a = c .before .before .before .before .before .before .before .before .before .before .before .args in
-    let k = c .before .before .before .before .before .before .before .before .next-token .ensures in
-    let which = element-statement (definitionAt (a .bodies) (a .text .now)) _ (l .at) k (c .before .before .before .before .before .is-kind .ensures) (c .before .before .before .before .if2 .left) in
-    let p = body-past _ _ (l .at) (l .inv) k (c .before .before .before .before .before .before .before .is-mark .ensures) (c .before .before .before .before .before .before .if1 .left) which (c .before .before .before .read-statement .ensures) (definition-ends _ _) (c .before .next2 .given .1) in
-    omega arith)  -- loop-less-2
+    let at-next2 = c .before in
+    let at-read-statement = at-next2 .before .before in
+    let at-if2 = at-read-statement .before in
+    let at-is-kind = at-if2 .before in
+    let at-if1 = at-is-kind .before in
+    let at-is-mark = at-if1 .before in
+    let at-next-token = at-is-mark .before in
+    let at-loop = at-next-token .before in
+    let at-start = at-loop .before .before in
+    let l = at-loop .loop in
+    let a = at-start .args in
+    let k = at-next-token .next-token .ensures in
+    let which = element-statement (definitionAt (a .bodies) (a .text .now)) _ (l .at) k (at-is-kind .is-kind .ensures) (at-if2 .if2 .left) in
+    let p = body-past _ _ (l .at) (l .inv) k (at-is-mark .is-mark .ensures) (at-if1 .if1 .left) which (at-read-statement .read-statement .ensures) (definition-ends _ _) (at-next2 .next2 .given .1) in
+    omega arith)
+    -- loop-again-2
     (λ c.
-    let l = c .before .before .before .before .before .before .before .before .before .loop in
-    let a = c .before .before .before .before .before .before .before .before .before .before .before .args in
-    let k = c .before .before .before .before .before .before .before .before .next-token .ensures in
-    let which = element-statement (definitionAt (a .bodies) (a .text .now)) _ (l .at) k (c .before .before .before .before .before .is-kind .ensures) (c .before .before .before .before .if2 .left) in
-    body-more _ _ (l .at) (l .inv) k (c .before .before .before .before .before .before .before .is-mark .ensures) (c .before .before .before .before .before .before .if1 .left) which (c .before .before .before .read-statement .ensures) (definition-ends _ _) (c .before .next2 .given .1))  -- loop-again-2
+    let at-next2 = c .before in
+    let at-read-statement = at-next2 .before .before in
+    let at-if2 = at-read-statement .before in
+    let at-is-kind = at-if2 .before in
+    let at-if1 = at-is-kind .before in
+    let at-is-mark = at-if1 .before in
+    let at-next-token = at-is-mark .before in
+    let at-loop = at-next-token .before in
+    let at-start = at-loop .before .before in
+    let l = at-loop .loop in
+    let a = at-start .args in
+    let k = at-next-token .next-token .ensures in
+    let which = element-statement (definitionAt (a .bodies) (a .text .now)) _ (l .at) k (at-is-kind .is-kind .ensures) (at-if2 .if2 .left) in
+    body-more _ _ (l .at) (l .inv) k (at-is-mark .is-mark .ensures) (at-if1 .if1 .left) which (at-read-statement .read-statement .ensures) (definition-ends _ _) (at-next2 .next2 .given .1))
     (λ c. search needs)  -- enum-known-number-2
+    -- returns-3
     (λ c.
-    let l = c .before .before .before .before .before .before .before .before .before .loop in
-    let a = c .before .before .before .before .before .before .before .before .before .before .before .args in
-    let k = c .before .before .before .before .before .before .before .before .next-token .ensures in
-    let which = element-statement (definitionAt (a .bodies) (a .text .now)) _ (l .at) k (c .before .before .before .before .before .is-kind .ensures) (c .before .before .before .before .if2 .left) in
-    body-stop _ _ (l .at) (l .inv) k (c .before .before .before .before .before .before .before .is-mark .ensures) (c .before .before .before .before .before .before .if1 .left) which (c .before .before .before .read-statement .ensures) (c .before .number2 .given .1)))  -- returns-3
+    let at-number2 = c .before in
+    let at-read-statement = at-number2 .before .before in
+    let at-if2 = at-read-statement .before in
+    let at-is-kind = at-if2 .before in
+    let at-if1 = at-is-kind .before in
+    let at-is-mark = at-if1 .before in
+    let at-next-token = at-is-mark .before in
+    let at-loop = at-next-token .before in
+    let at-start = at-loop .before .before in
+    let l = at-loop .loop in
+    let a = at-start .args in
+    let k = at-next-token .next-token .ensures in
+    let which = element-statement (definitionAt (a .bodies) (a .text .now)) _ (l .at) k (at-is-kind .is-kind .ensures) (at-if2 .if2 .left) in
+    body-stop _ _ (l .at) (l .inv) k (at-is-mark .is-mark .ensures) (at-if1 .if1 .left) which (at-read-statement .read-statement .ensures) (at-number2 .number2 .given .1)))
     λ t. read-definition-lts.spec (read-definition-claims t) (read-definition-at t) read-definition.Post
     (λ c κs. search needs)  -- read-header-requires
     (λ c. search needs)  -- enum-known-place
     (λ c. search needs)  -- enum-known-header
-    (λ c. with-numbers _ (definition-deep _ _ (c .before .before .before .before .read-header .ensures) (c .before .before .header .given .1) (c .if1 .taken)))  -- returns
+    -- returns
+    (λ c. with-numbers _ (definition-deep _ _ (c .before .before .before .before .read-header .ensures) (c .before .before .header .given .1) (c .if1 .taken)))
     (λ c. search needs)  -- sub-read-body
     (λ c κs. (omega arith, tt))  -- read-body-requires
     (λ c. search needs)  -- enum-known-number
     (λ c. search needs)  -- enum-known-next
     (λ c κs. search needs)  -- is-named-requires
     (λ c κs. search needs)  -- read-tail-requires
-    (λ c. with-numbers _ (definition-header _ _ (c .before .before .before .read-header .ensures) _ (c .before .place .given .1)))  -- returns-2
-    (λ c. with-numbers _ (definition-body _ _ (c .before .before .before .before .before .before .before .before .read-header .ensures) (c .before .before .before .before .before .before .header .given .1) (c .before .before .before .before .if1 .left) (c .before .before .before .read-body .ensures) (c .before .number .given .1)))  -- returns-3
-    (λ c. with-numbers _ (definition-tail _ _ (c .before .before .before .before .before .before .before .before .before .before .read-header .ensures) (c .before .before .before .before .before .before .before .before .header .given .1) (c .before .before .before .before .before .before .if1 .left) (c .before .before .before .before .before .read-body .ensures) (c .before .before .before .next .given .1) (c .before .is-named .ensures) (c .read-tail .ensures)))  -- returns-4
+    -- returns-2
+    (λ c. with-numbers _ (definition-header _ _ (c .before .before .before .read-header .ensures) _ (c .before .place .given .1)))
+    -- returns-3
+    (λ c.
+    let at-number = c .before in
+    let at-read-body = at-number .before .before in
+    let at-if1 = at-read-body .before in
+    let at-header = at-if1 .before .before in
+    let at-read-header = at-header .before .before in
+    with-numbers _ (definition-body _ _ (at-read-header .read-header .ensures) (at-header .header .given .1) (at-if1 .if1 .left) (at-read-body .read-body .ensures) (at-number .number .given .1)))
+    -- returns-4
+    (λ c.
+    let at-is-named = c .before in
+    let at-next = at-is-named .before .before in
+    let at-read-body = at-next .before .before in
+    let at-if1 = at-read-body .before in
+    let at-header = at-if1 .before .before in
+    let at-read-header = at-header .before .before in
+    with-numbers _ (definition-tail _ _ (at-read-header .read-header .ensures) (at-header .header .given .1) (at-if1 .if1 .left) (at-read-body .read-body .ensures) (at-next .next .given .1) (at-is-named .is-named .ensures) (c .read-tail .ensures)))

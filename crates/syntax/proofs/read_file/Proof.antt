@@ -29,22 +29,37 @@ returns c =
 
 loop-less : tie.Need-loop-less Inv-loop μ-loop
 loop-less c =
-    let e = c .before .before .before .before .before in
-    let l = e .before .before .loop in
-    let p = file-past _ (l .at) (l .inv) (e .before .next-token .ensures) (e .is-end .ensures) (c .before .before .before .before .if1 .left) (c .before .before .before .read-definition .ensures .0) (c .before .next .given .1) in
+    let at-next = c .before in
+    let at-read-definition = at-next .before .before in
+    let at-if1 = at-read-definition .before in
+    let at-is-end = at-if1 .before in
+    let at-next-token = at-is-end .before in
+    let at-loop = at-next-token .before in
+    let l = at-loop .loop in
+    let p = file-past _ (l .at) (l .inv) (at-next-token .next-token .ensures) (at-is-end .is-end .ensures) (at-if1 .if1 .left) (at-read-definition .read-definition .ensures .0) (at-next .next .given .1) in
     omega arith
 
 loop-again : tie.Need-loop-again Inv-loop μ-loop
 loop-again c =
-    let e = c .before .before .before .before .before in
-    let l = e .before .before .loop in
-    file-more _ (l .at) (l .inv) (e .before .next-token .ensures) (e .is-end .ensures) (c .before .before .before .before .if1 .left) (c .before .before .before .read-definition .ensures .0) (c .before .next .given .1)
+    let at-next = c .before in
+    let at-read-definition = at-next .before .before in
+    let at-if1 = at-read-definition .before in
+    let at-is-end = at-if1 .before in
+    let at-next-token = at-is-end .before in
+    let at-loop = at-next-token .before in
+    let l = at-loop .loop in
+    file-more _ (l .at) (l .inv) (at-next-token .next-token .ensures) (at-is-end .is-end .ensures) (at-if1 .if1 .left) (at-read-definition .read-definition .ensures .0) (at-next .next .given .1)
 
 returns-2 : tie.Need-returns-2 Inv-loop μ-loop
 returns-2 c =
-    let e = c .before .before .before .before .before in
-    let l = e .before .before .loop in
-    with-numbers _ (file-stop _ (l .at) (l .inv) (e .before .next-token .ensures) (e .is-end .ensures) (c .before .before .before .before .if1 .left) (c .before .before .before .read-definition .ensures .0) (c .before .number .given .1))
+    let at-number = c .before in
+    let at-read-definition = at-number .before .before in
+    let at-if1 = at-read-definition .before in
+    let at-is-end = at-if1 .before in
+    let at-next-token = at-is-end .before in
+    let at-loop = at-next-token .before in
+    let l = at-loop .loop in
+    with-numbers _ (file-stop _ (l .at) (l .inv) (at-next-token .next-token .ensures) (at-is-end .is-end .ensures) (at-if1 .if1 .left) (at-read-definition .read-definition .ensures .0) (at-number .number .given .1))
 
 pub read-file-spec : {M : Type 1} → statement M
 read-file-spec =
@@ -53,12 +68,12 @@ read-file-spec =
     Inv-loop
     μ-loop
     loop-holds
-    (λ c κs. search needs)
-    (λ c κs. search needs)
+    (λ c κs. search needs)  -- next-token-requires
+    (λ c κs. search needs)  -- is-end-requires
     returns
-    (λ c κs. search needs)
-    (λ c. search needs)
+    (λ c κs. search needs)  -- read-definition-requires
+    (λ c. search needs)  -- enum-known-next
     loop-less
     loop-again
-    (λ c. search needs)
+    (λ c. search needs)  -- enum-known-number
     returns-2)

@@ -23,19 +23,28 @@ loop-holds c = record { turns = length (c .before .args .text .now); enough = om
 
 returns : tie.Need-returns Inv-loop μ-loop
 returns c =
-    let l = c .before .before .before .before .before .loop in
-    list-last _ (l .at) (l .inv) (c .before .before .before .before .read-listed .ensures) (c .before .before .listed .given .1) (c .if1 .taken)
+    let at-listed = c .before .before in
+    let at-read-listed = at-listed .before .before in
+    let at-loop = at-read-listed .before in
+    let l = at-loop .loop in
+    list-last _ (l .at) (l .inv) (at-read-listed .read-listed .ensures) (at-listed .listed .given .1) (c .if1 .taken)
 
 loop-less : tie.Need-loop-less Inv-loop μ-loop
 loop-less c =
-    let l = c .before .before .before .before .before .loop in
-    let p = list-past _ (l .at) (l .inv) (c .before .before .before .before .read-listed .ensures) (c .before .before .listed .given .1) in
+    let at-listed = c .before .before in
+    let at-read-listed = at-listed .before .before in
+    let at-loop = at-read-listed .before in
+    let l = at-loop .loop in
+    let p = list-past _ (l .at) (l .inv) (at-read-listed .read-listed .ensures) (at-listed .listed .given .1) in
     omega arith
 
 loop-again : tie.Need-loop-again Inv-loop μ-loop
 loop-again c =
-    let l = c .before .before .before .before .before .loop in
-    list-more _ (l .at) (l .inv) (c .before .before .before .before .read-listed .ensures) (c .before .before .listed .given .1) (c .if1 .left)
+    let at-listed = c .before .before in
+    let at-read-listed = at-listed .before .before in
+    let at-loop = at-read-listed .before in
+    let l = at-loop .loop in
+    list-more _ (l .at) (l .inv) (at-read-listed .read-listed .ensures) (at-listed .listed .given .1) (c .if1 .left)
 
 returns-2 : tie.Need-returns-2 Inv-loop μ-loop
 returns-2 c =
@@ -49,10 +58,10 @@ read-instances-spec =
     Inv-loop
     μ-loop
     loop-holds
-    (λ c κs. search needs)
-    (λ c. search needs)
+    (λ c κs. search needs)  -- read-listed-requires
+    (λ c. search needs)  -- enum-known-listed
     returns
     loop-less
     loop-again
-    (λ c. search needs)
+    (λ c. search needs)  -- enum-known-number
     returns-2)

@@ -1,3 +1,4 @@
+-- Without a name there must be instances; with one a semicolon may stand at once.
 use borrow.Author.Needs.{needs}
 use Rattle.syntax.proofs.Turns.{tail-unnamed, tail-end, tail-instances}
 use borrow.Author.Tests.{not-true, not-false}
@@ -8,10 +9,10 @@ pub read-tail-spec : {M : Type 1} → statement M
 read-tail-spec =
     tie.close
     (tie.spec
-    (λ c κs. search needs)
-    (λ c. search (tail-unnamed, not-true))
-    (λ c κs. search needs)
-    (λ c κs. search needs)
-    (λ c. search (tail-end, not-false))
-    (λ c κs. search needs)
-    (λ c. search (tail-instances, not-false)))
+    (λ c κs. search needs)  -- read-instances-requires
+    (λ c. search (tail-unnamed, not-true))  -- returns
+    (λ c κs. search needs)  -- next-token-requires
+    (λ c κs. search needs)  -- is-mark-requires
+    (λ c. search (tail-end, not-false))  -- returns-2
+    (λ c κs. search needs)  -- read-instances-requires-2
+    (λ c. search (tail-instances, not-false)))  -- returns-3

@@ -1,3 +1,4 @@
+-- The five lists and then the words left out, tested one behind the other, are the list of all keywords.
 use borrow.Author.Needs.{needs}
 use Rattle.vocabulary.proofs.Laws.{entry-behind}
 use mathlib.Core.List.{_++_}
@@ -11,10 +12,17 @@ unfolding keywordOf
 keyword-of-spec =
     tie.close
     (tie.spec
-    (λ c κs. search needs)
-    (λ c κs. search needs)
-    (λ c κs. search needs)
-    (λ c κs. search needs)
-    (λ c κs. search needs)
-    (λ c κs. search needs)
-    (λ c. rw (← c .before .before .before .before .before .left-out .ensures) (entry-behind spelling Kept _ _ structureKeywords (propertyKeywords ++ (accessKeywords ++ (effectKeywords ++ addressingKeywords))) (c .structure-keyword .ensures) (entry-behind spelling Kept _ _ propertyKeywords (accessKeywords ++ (effectKeywords ++ addressingKeywords)) (c .before .property-keyword .ensures) (entry-behind spelling Kept _ _ accessKeywords (effectKeywords ++ addressingKeywords) (c .before .before .access-keyword .ensures) (entry-behind spelling Kept _ _ effectKeywords addressingKeywords (c .before .before .before .effect-keyword .ensures) (c .before .before .before .before .addressing-keyword .ensures)))))))
+    (λ c κs. search needs)  -- left-out-requires
+    (λ c κs. search needs)  -- addressing-keyword-requires
+    (λ c κs. search needs)  -- effect-keyword-requires
+    (λ c κs. search needs)  -- access-keyword-requires
+    (λ c κs. search needs)  -- property-keyword-requires
+    (λ c κs. search needs)  -- structure-keyword-requires
+    -- returns
+    (λ c.
+    let at-property-keyword = c .before in
+    let at-access-keyword = at-property-keyword .before in
+    let at-effect-keyword = at-access-keyword .before in
+    let at-addressing-keyword = at-effect-keyword .before in
+    let at-left-out = at-addressing-keyword .before in
+    rw (← at-left-out .left-out .ensures) (entry-behind spelling Kept _ _ structureKeywords (propertyKeywords ++ (accessKeywords ++ (effectKeywords ++ addressingKeywords))) (c .structure-keyword .ensures) (entry-behind spelling Kept _ _ propertyKeywords (accessKeywords ++ (effectKeywords ++ addressingKeywords)) (at-property-keyword .property-keyword .ensures) (entry-behind spelling Kept _ _ accessKeywords (effectKeywords ++ addressingKeywords) (at-access-keyword .access-keyword .ensures) (entry-behind spelling Kept _ _ effectKeywords addressingKeywords (at-effect-keyword .effect-keyword .ensures) (at-addressing-keyword .addressing-keyword .ensures)))))))

@@ -1,3 +1,4 @@
+-- The three lists, tested one behind the other, are the list of all properties.
 use borrow.Author.Needs.{needs}
 use Rattle.vocabulary.proofs.Laws.{entry-behind}
 use mathlib.Core.List.{_++_}
@@ -11,7 +12,8 @@ unfolding propertyOf
 property-of-spec =
     tie.close
     (tie.spec
-    (λ c κs. search needs)
-    (λ c κs. search needs)
-    (λ c κs. search needs)
+    (λ c κs. search needs)  -- other-property-requires
+    (λ c κs. search needs)  -- effect-property-requires
+    (λ c κs. search needs)  -- access-property-requires
+    -- returns
     (λ c. (entry-behind propertyName Known Unknown _ accessProperties (effectProperties ++ otherProperties) (c .access-property .ensures) (entry-behind propertyName Known Unknown _ effectProperties otherProperties (c .before .effect-property .ensures) (c .before .before .other-property .ensures)))))

@@ -1,4 +1,4 @@
-use borrow.Author.Needs.{needs}
+-- Each of 21 bytes is a mark of one byte; every other byte is none.
 use Rattle.chars.specs.Same.{sameBytes}
 use Rattle.vocabulary.specs.Vocabulary.{chosen, entry, markOf}
 use Rattle.vocabulary.proofs.Laws.{single-none}
@@ -10,25 +10,26 @@ unfolding sameBytes chosen entry markOf
 single-mark-spec =
     tie.close
     (tie.spec
-    (λ c. rw (c .match .keys1))
-    (λ c. rw (c .match .keys2))
-    (λ c. rw (c .match .keys3))
-    (λ c. rw (c .match .keys4))
-    (λ c. rw (c .match .keys5))
-    (λ c. rw (c .match .keys6))
-    (λ c. rw (c .match .keys7))
-    (λ c. rw (c .match .keys8))
-    (λ c. rw (c .match .keys9))
-    (λ c. rw (c .match .keys10))
-    (λ c. rw (c .match .keys11))
-    (λ c. rw (c .match .keys12))
-    (λ c. rw (c .match .keys13))
-    (λ c. rw (c .match .keys14))
-    (λ c. rw (c .match .keys15))
-    (λ c. rw (c .match .keys16))
-    (λ c. rw (c .match .keys17))
-    (λ c. rw (c .match .keys18))
-    (λ c. rw (c .match .keys19))
-    (λ c. rw (c .match .keys20))
-    (λ c. rw (c .match .keys21))
+    (λ c. rw (c .match .keys1))  -- returns
+    (λ c. rw (c .match .keys2))  -- returns-2
+    (λ c. rw (c .match .keys3))  -- returns-3
+    (λ c. rw (c .match .keys4))  -- returns-4
+    (λ c. rw (c .match .keys5))  -- returns-5
+    (λ c. rw (c .match .keys6))  -- returns-6
+    (λ c. rw (c .match .keys7))  -- returns-7
+    (λ c. rw (c .match .keys8))  -- returns-8
+    (λ c. rw (c .match .keys9))  -- returns-9
+    (λ c. rw (c .match .keys10))  -- returns-10
+    (λ c. rw (c .match .keys11))  -- returns-11
+    (λ c. rw (c .match .keys12))  -- returns-12
+    (λ c. rw (c .match .keys13))  -- returns-13
+    (λ c. rw (c .match .keys14))  -- returns-14
+    (λ c. rw (c .match .keys15))  -- returns-15
+    (λ c. rw (c .match .keys16))  -- returns-16
+    (λ c. rw (c .match .keys17))  -- returns-17
+    (λ c. rw (c .match .keys18))  -- returns-18
+    (λ c. rw (c .match .keys19))  -- returns-19
+    (λ c. rw (c .match .keys20))  -- returns-20
+    (λ c. rw (c .match .keys21))  -- returns-21
+    -- returns-22
     (λ c. single-none _ (c .match .rest .0 .0 .0 .0 .0 .0 .0 .0 .0 .0 .0 .0 .0 .0 .0 .0 .0 .0 .0 .0 .1) (c .match .rest .0 .0 .0 .0 .0 .0 .0 .0 .0 .0 .0 .0 .0 .0 .0 .0 .0 .0 .0 .1) (c .match .rest .0 .0 .0 .0 .0 .0 .0 .0 .0 .0 .0 .0 .0 .0 .0 .0 .0 .0 .1) (c .match .rest .0 .0 .0 .0 .0 .0 .0 .0 .0 .0 .0 .0 .0 .0 .0 .0 .0 .1) (c .match .rest .0 .0 .0 .0 .0 .0 .0 .0 .0 .0 .0 .0 .0 .0 .0 .0 .1) (c .match .rest .0 .0 .0 .0 .0 .0 .0 .0 .0 .0 .0 .0 .0 .0 .0 .1) (c .match .rest .0 .0 .0 .0 .0 .0 .0 .0 .0 .0 .0 .0 .0 .0 .1) (c .match .rest .0 .0 .0 .0 .0 .0 .0 .0 .0 .0 .0 .0 .0 .1) (c .match .rest .0 .0 .0 .0 .0 .0 .0 .0 .0 .0 .0 .0 .1) (c .match .rest .0 .0 .0 .0 .0 .0 .0 .0 .0 .0 .0 .1) (c .match .rest .0 .0 .0 .0 .0 .0 .0 .0 .0 .0 .1) (c .match .rest .0 .0 .0 .0 .0 .0 .0 .0 .0 .1) (c .match .rest .0 .0 .0 .0 .0 .0 .0 .0 .1) (c .match .rest .0 .0 .0 .0 .0 .0 .0 .1) (c .match .rest .0 .0 .0 .0 .0 .0 .1) (c .match .rest .0 .0 .0 .0 .0 .1) (c .match .rest .0 .0 .0 .0 .1) (c .match .rest .0 .0 .0 .1) (c .match .rest .0 .0 .1) (c .match .rest .0 .1) (c .match .rest .1)))

@@ -1,4 +1,4 @@
-use borrow.Author.Needs.{needs}
+-- Two unlike bytes without an equals sign are no mark; of equal ones only the two shifts are.
 use Rattle.chars.specs.Same.{sameBytes}
 use Rattle.vocabulary.specs.Vocabulary.{chosen, entry, markOf}
 use Rattle.vocabulary.proofs.Laws.{unlike-none, twice-none}
@@ -10,7 +10,8 @@ unfolding sameBytes chosen entry markOf
 twice-mark-spec =
     tie.close
     (tie.spec
-    (λ c. search unlike-none)
-    (λ c. rw (← c .before .if1 .left, c .match .keys1))
-    (λ c. rw (← c .before .if1 .left, c .match .keys2))
+    (λ c. search unlike-none)  -- returns
+    (λ c. rw (← c .before .if1 .left, c .match .keys1))  -- returns-2
+    (λ c. rw (← c .before .if1 .left, c .match .keys2))  -- returns-3
+    -- returns-4
     (λ c. twice-none _ _ (c .before .before .pre) (c .before .if1 .left) (c .match .rest .0 .1) (c .match .rest .1)))

@@ -16,12 +16,12 @@ show-tokens-spec =
     (tie.spec
     Inv-loop
     μ-loop
-    (λ c. search needs)
-    (λ c κs. search needs)
-    (λ c κs. search needs)
-    (λ c. search needs)
-    (λ c κs. search needs)
-    (λ c. search needs)
-    (λ c. search needs)
-    (λ c. search needs)
-    (λ c. search needs))
+    (λ c. search needs)  -- loop-holds
+    (λ c κs. search needs)  -- next-token-requires
+    (λ c κs. search needs)  -- show-token-requires
+    (λ c. search needs)  -- add-count
+    (λ c κs. search needs)  -- is-last-requires
+    (λ c. search needs)  -- returns
+    (λ c. search needs)  -- loop-less
+    (λ c. search needs)  -- loop-again
+    (λ c. search needs))  -- returns-2

@@ -1,0 +1,12 @@
+pub mod Words
+pub mod Readings
+pub mod Judging
+pub mod Named
+pub mod Lists
+pub mod Stages
+pub mod Steps
+pub mod Fields
+pub mod Registers
+pub mod Reaching
+pub mod Lawful
+pub mod Firsts

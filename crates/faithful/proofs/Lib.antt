@@ -1,7 +1,0 @@
-pub mod Cells
-pub mod Names
-pub mod Paths
-pub mod Fields
-pub mod Tables
-pub mod Faithful
-pub mod Lists

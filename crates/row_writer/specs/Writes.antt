@@ -1,0 +1,46 @@
+-- What the functions that write rows do to the lent tables.
+use mathlib.Core.Path.{_≡_}
+use mathlib.Core.List.{List, [], _∷_, _++_}
+use Prim.Native.Nat.{ℕ, zero, suc, _+_, _*_}
+use lib.ListN.{length}
+use Rattle.identifiers.specs.Names.{bytesOf}
+use Rattle.basics.specs.Limits.{nestLimit, fieldRowWidth, nameWidth}
+use Rattle.basics.specs.Slices.{cellOf, written}
+use Rattle.cells.specs.Cells.{componentIn}
+use Rattle.cells.specs.Definitions.{definitionOf}
+use Rattle.closing_rules.specs.Registers.{firstBit}
+use Rattle.rows.specs.Rows.{Field, Entry, nameCell, fieldRun, labelRun}
+use Rattle.sizes.specs.declared.Extent.{Extent}
+use Rattle.sizes.specs.Ready.{known}
+use Rattle.map_walk.specs.Runs.{logWidth}
+use Rattle.map_walk.specs.Walks.{registersOf}
+use Rattle.row_writer.specs.Entries.{rowFields, widthsOf, entriesOf}
+
+-- the names and the indices of `n` steps of the log, whose cells stand from an index on
+unfoldable pub namesIn : List ℕ → List ℕ → ℕ → ℕ → List ℕ
+namesIn text log at zero = []
+namesIn text log at (suc n) = nameCell (bytesOf text (cellOf log at) (cellOf log (at + 1))) ++ namesIn text log (at + 3) n
+
+unfoldable pub indicesIn : List ℕ → ℕ → ℕ → List ℕ
+indicesIn log at zero = []
+indicesIn log at (suc n) = cellOf log (at + 2) ∷ indicesIn log (at + 3) n
+
+-- a register's numbers, from the log and from its type's row
+unfoldable pub numbersIn : List ℕ → List ℕ → ℕ → ℕ → ℕ → List ℕ
+numbersIn t log i first count =
+    let r = widthsOf (componentIn t (cellOf log (i * logWidth + 1))) in
+    cellOf log (i * logWidth) ∷ r .width ∷ r .access ∷ first ∷ count ∷ cellOf log (i * logWidth + 2) ∷ indicesIn log (i * logWidth + 3) nestLimit
+
+-- fields and labels from a field row on, and the next field row
+pub record RunWrites (fields fieldsAfter labels labelsAfter : List ℕ) (first : ℕ) (fs : List Field) (r : ℕ) : Type 0 where
+  pub next : r ≡ first + length fs
+  pub rows : fieldsAfter ≡ written fields (first * fieldRowWidth) (fieldRun fs)
+  pub names : labelsAfter ≡ written labels (first * nameWidth) (labelRun fs)
+
+-- the fields of a definition's row
+abbrev pub fieldsIn : List ℕ → List ℕ → Extent → ℕ → List Field
+fieldsIn text t e row = rowFields text (known text t e) firstBit (definitionOf (known text t e) row .instances)
+
+-- the rows of the registers of the map in a row
+abbrev pub entriesIn : List ℕ → List ℕ → Extent → ℕ → List Entry
+entriesIn text t e row = entriesOf text (known text t e) (registersOf text t e row)
