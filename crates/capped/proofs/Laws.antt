@@ -62,6 +62,14 @@ module _ (x y : ℕ) where
   unfolding larger
   larger-left l = either (λ (n : ℕ). n ≡ x) (leb x y) (λ e. omega (arith, leb-true x y e)) (λ _. refl)
 
+  pub larger-first : x ≤ larger x y
+  unfolding larger
+  larger-first = either (λ (n : ℕ). x ≤ n) (leb x y) (λ e. leb-true x y e) (λ _. omega arith)
+
+  pub larger-second : y ≤ larger x y
+  unfolding larger
+  larger-second = either (λ (n : ℕ). y ≤ n) (leb x y) (λ _. omega arith) (λ e. omega (arith, leb-false x y e))
+
 -- the larger of two cut numbers
 pub cut-larger : (x y : ℕ) → larger (cut x) (cut y) ≡ cut (larger x y)
 cut-larger x y = by (leb x y) refl

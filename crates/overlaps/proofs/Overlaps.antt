@@ -1,19 +1,28 @@
 -- Registers alone decide 21, and one after another.
-use mathlib.Core.Bool.{Bool, true, false, _||_, _&&_}
-use mathlib.Core.Path.{_≡_, refl, sym, ap, _∙_}
+use mathlib.Core.Bool.{Bool, true, false, _||_, _&&_, not}
+use mathlib.Core.Path.{_≡_, refl, sym, ap, subst, _∙_}
 use mathlib.Core.List.{List, [], _∷_, _++_, append-nil}
 use Prim.Native.Nat.{ℕ, suc, _+_, _<_, _≤_}
 use native.Mathlib.Numerals.{add-one}
+use native.Mathlib.Omega.{arith}
+use lib.Dec.{ltb}
 use lib.ListN.{length, take, drop, drop-of-length-le}
 use lib.Seq.{take-suc, drop-cons}
+use borrow.Author.Tests.{le-ltb}
+use Rattle.basics.specs.All.{all-none, all-more}
 use Rattle.basics.specs.Choice.{if_then_else_}
 use Rattle.basics.specs.declared.Fault.{Fault}
 use Rattle.basics.specs.declared.Fault.the-variants.{None, Refused}
 use Rattle.cells.specs.Definitions.{Definition}
+use Rattle.layout.specs.Layout.{shapeAt}
 use Rattle.layout.specs.declared.Shape.{Shape}
+use Rattle.capped.specs.Offsets.{larger}
 use Rattle.map_rules.specs.Visits.{Visit}
-use Rattle.map_rules.specs.Whole.{isRegisterVisit, overlapRegisters, overlapsOne, overlapping, registersAmong}
+use Rattle.map_rules.specs.Whole.{isRegisterVisit, isSharedLawfully, overlapRegisters, overlapsOne, overlapping, registersAmong}
 use Rattle.map_walk.specs.Walks.{visitAt, noVisit}
+use Rattle.overlaps.specs.Charted.{EndBy}
+use Rattle.basics.proofs.All.{all-append, all-map}
+use Rattle.capped.proofs.Laws.{larger-first, larger-second}
 
 -- the registers among some elements, with one more before them or behind them
 module _ (table : List Definition) (u : Visit) (us : List Visit) where
@@ -74,6 +83,32 @@ one-among table shapes v (u ∷ us) = by (isRegisterVisit table u) refl (one-amo
         one-register table shapes v u us y ∙ ap (λ (b : Bool). overlapRegisters table shapes v u || b) h ∙ sym (one-register table shapes v u (registersAmong table us) y)
         ∙ ap (overlapsOne table shapes v) (sym (among-register table u us y))
     by false y h = one-other table shapes v u us y ∙ h ∙ ap (overlapsOne table shapes v) (sym (among-other table u us y))
+
+-- a register that stands above all earlier ones overlaps none of them
+above-register : (table : List Definition) (shapes : List Shape) (v u : Visit) → u .address .0 + shapeAt shapes (u .type) .size ≤ v .address .0 → overlapRegisters table shapes v u ≡ false
+unfolding overlapRegisters
+above-register table shapes v u h =
+    ap (λ (b : Bool). (b && ltb (u .address .0) (v .address .0 + shapeAt shapes (v .type) .size)) && not (isSharedLawfully table (v .type) (u .type)))
+    (le-ltb (v .address .0) (u .address .0 + shapeAt shapes (u .type) .size) h)
+
+pub one-above : (table : List Definition) (shapes : List Shape) (v : Visit) {top : ℕ} {us : List Visit} → top ≤ v .address .0 → EndBy shapes top us → overlapsOne table shapes v us ≡ false
+one-above table shapes v h all-none = one-none table shapes v
+one-above table shapes v {top = top} h (all-more {x = u} {xs = us} p a) = by (isRegisterVisit table u) refl (one-above table shapes v h a)
+  where
+    by : (b : Bool) → isRegisterVisit table u ≡ b → overlapsOne table shapes v us ≡ false → overlapsOne table shapes v (u ∷ us) ≡ false
+    by true y f =
+        one-register table shapes v u us y ∙ ap (λ (b : Bool). b || overlapsOne table shapes v us) (above-register table shapes v u (omega (arith, p, h))) ∙ f
+    by false y f = one-other table shapes v u us y ∙ f
+
+-- where registers end, with one more
+ends-raised : (shapes : List Shape) (top end : ℕ) {us : List Visit} → EndBy shapes top us → top ≤ end → EndBy shapes end us
+ends-raised shapes top end a h = all-map (λ u p. omega (arith, p, h)) a
+
+pub ends-next : (shapes : List Shape) (vs : List Visit) (i top end : ℕ) → i < length vs → EndBy shapes top (take i vs) → visitAt vs i .address .0 + shapeAt shapes (visitAt vs i .type) .size ≤ end
+    → EndBy shapes (larger top end) (take (i + 1) vs)
+ends-next shapes vs i top end h a p =
+    subst (EndBy shapes (larger top end)) (sym (ap (λ (n : ℕ). take n vs) (add-one i) ∙ take-suc vs i noVisit h))
+    (all-append (ends-raised shapes top (larger top end) a (larger-first top end)) (all-more (omega (arith, p, larger-second top end)) all-none))
 
 -- elements one after another
 module _ (table : List Definition) (shapes : List Shape) (earlier : List Visit) (v : Visit) (vs : List Visit) where

@@ -2,7 +2,7 @@
 use mathlib.Core.Bool.{Bool, true, false, _||_, _&&_, not}
 use mathlib.Core.Path.{_≡_, refl, sym, ap, _∙_}
 use mathlib.Core.List.{List, [], _∷_}
-use Prim.Native.Nat.{ℕ, suc, _+_, _-_, _*_, _<_, _≤_}
+use Prim.Native.Nat.{ℕ, suc, _+_, _-_, _*_, _^_, _<_, _≤_}
 use native.Mathlib.Numerals.{add-one}
 use native.Mathlib.Omega.{arith}
 use lib.Dec.{ltb}
@@ -12,8 +12,10 @@ use borrow.Author.Tests.{lt-ltb, le-ltb}
 use Rattle.basics.specs.Limits.{definitionLimit, nestLimit, registerLimit}
 use Rattle.basics.specs.declared.Fault.the-variants.{None, Refused}
 use Rattle.fields.specs.declared.Offset.{Offset}
+use Rattle.basics.specs.All.{all-none}
 use Rattle.basics.specs.Slices.{cellOf}
 use Rattle.cells.specs.Definitions.{Definition}
+use Rattle.capped.specs.Offsets.{larger}
 use Rattle.layout.specs.Layout.{shapeAt}
 use Rattle.layout.specs.declared.Shape.{Shape}
 use Rattle.sizes.specs.declared.Extent.{Extent}
@@ -24,10 +26,10 @@ use Rattle.map_rules.specs.Whole.{isRegisterVisit, isPair, isSharedLawfully, ov
 use Rattle.map_walk.specs.Runs.{trailWidth, stepCells, logWidth}
 use Rattle.map_walk.specs.Walks.{LogRow, visitAt, noVisit, elementsOf, registersOf}
 use Rattle.overlaps.specs.declared.Plot.{Plot}
-use Rattle.overlaps.specs.Charted.{Charted, plotIn, plotsOverlap, PlotFits}
+use Rattle.overlaps.specs.Charted.{Charted, EndBy, plotIn, plotsOverlap, PlotFits}
 use Rattle.basics.proofs.All.{all-at}
 use Rattle.overlaps.proofs.Visits.{padded-cell, seen-length, seen-place, register-size, register-whole, RegisterSeen, registers-seen}
-use Rattle.overlaps.proofs.Overlaps.{one-register, one-none, registers-decide, from-end, from-hit, from-on}
+use Rattle.overlaps.proofs.Overlaps.{one-register, one-none, one-above, ends-next, registers-decide, from-end, from-hit, from-on}
 
 -- a register of the log, from its cells
 same-plot : {a b c x y z : ℕ} → a ≡ x → b ≡ y → c ≡ z → _≡_ {A = Plot} (record { row = a; address = record { 0 = b }; size = c }) (record { row = x; address = record { 0 = y }; size = z })
@@ -132,6 +134,17 @@ module _ (text t s log : List ℕ) (e : Extent) (row : ℕ) (c : Charted text t 
       let z = register-size text t e (visit .type) (seen-at .type) in
       record { row = rw (o .row) type-low; address = omega (arith, ap number (o .address), w); size = omega (arith, o .size, z) }
 
+  -- above the end of all those before it, it overlaps none
+  pub above-earlier : {p : Plot} {top : ℕ} → p ≡ plotIn s log i → EndBy (allShapes text t e) top (take i (registersOf text t e row)) → top ≤ p .address .0
+      → false ≡ overlapsOne (known text t e) (allShapes text t e) (visitAt (registersOf text t e row) i) (take i (registersOf text t e row))
+  above-earlier f a l = sym (one-above (known text t e) (allShapes text t e) visit (omega (arith, l, ap number (plot-is f .address))) a)
+
+  pub ends-here : {p : Plot} {top : ℕ} → p ≡ plotIn s log i → EndBy (allShapes text t e) top (take i (registersOf text t e row))
+      → EndBy (allShapes text t e) (larger top (p .address .0 + p .size)) (take (i + 1) (registersOf text t e row))
+  ends-here {p = p} {top = top} f a =
+      let o = plot-is f in
+      ends-next (allShapes text t e) (registersOf text t e row) i top (p .address .0 + p .size) h a (omega (arith, ap number (o .address), o .size))
+
   -- its name's place is that of its path's last step
   pub named-at : cellOf log (i * logWidth + 3 * cellOf log (i * logWidth + 2)) ≡ visitAt (registersOf text t e row) i .name .start
   named-at =
@@ -216,17 +229,18 @@ module _ (text t s log : List ℕ) (e : Extent) (row i : ℕ) where
               }
 
 -- all registers, from the i-th on
-pub record Searching (text t s log : List ℕ) (e : Extent) (row count i : ℕ) : Type 0 where
+pub record Searching (text t s log : List ℕ) (e : Extent) (row count i top : ℕ) : Type 0 where
   pub charted : Charted text t s log e row
+  pub ends : EndBy (allShapes text t e) top (take i (registersOf text t e row))
   pub all : count ≡ length (registersOf text t e row)
   pub same : overlapping (known text t e) (allShapes text t e) (take i (registersOf text t e row)) (drop i (registersOf text t e row))
       ≡ overlapping (known text t e) (allShapes text t e) [] (elementsOf text t e row)
 
 module _ (text t s log : List ℕ) (e : Extent) (row count : ℕ) where
-  pub searching-start : Charted text t s log e row → count ≡ length (registersOf text t e row) → Searching text t s log e row count 0
-  searching-start c f = record { charted = c; all = f; same = sym (registers-decide (known text t e) (allShapes text t e) (elementsOf text t e row)) }
+  pub searching-start : Charted text t s log e row → count ≡ length (registersOf text t e row) → Searching text t s log e row count 0 0
+  searching-start c f = record { charted = c; ends = all-none; all = f; same = sym (registers-decide (known text t e) (allShapes text t e) (elementsOf text t e row)) }
 
-  module _ {i : ℕ} (c : Searching text t s log e row count i) where
+  module _ {i top : ℕ} (c : Searching text t s log e row count i top) where
     pub searching-end : count ≤ i → None ≡ overlapping (known text t e) (allShapes text t e) [] (elementsOf text t e row)
     searching-end h = sym (from-end (known text t e) (allShapes text t e) (registersOf text t e row) i (omega (arith, h, c .all))) ∙ c .same
 
@@ -236,6 +250,14 @@ module _ (text t s log : List ℕ) (e : Extent) (row count : ℕ) where
 
       pub searching-few : i ≤ registerLimit
       searching-few = index-few text t s log e row (c .charted) i searching-low
+
+      pub searching-row : cellOf log (i * logWidth + 1) < definitionLimit
+      searching-row = row-few text t s log e row (c .charted) i searching-low
+
+      pub searching-sum : {p : Plot} → p ≡ plotIn s log i → p .address .0 + p .size < 2 ^ 64
+      searching-sum f =
+          let o = plot-fits text t s log e row (c .charted) i searching-low f in
+          omega (arith, o .address, o .size)
 
       pub searching-depth : cellOf log (i * logWidth + 2) ≤ nestLimit
       searching-depth = depth-few text t s log e row (c .charted) i searching-low
@@ -250,10 +272,11 @@ module _ (text t s log : List ℕ) (e : Extent) (row count : ℕ) where
             ap (Refused 21) (p ∙ named-at text t s log e row (c .charted) i searching-low)
             ∙ sym (from-hit (known text t e) (allShapes text t e) (registersOf text t e row) i searching-low is-register (sym f ∙ y)) ∙ c .same
 
-        pub searching-next : r ≡ false → Searching text t s log e row count (i + 1)
-        searching-next y =
+        pub searching-next : {p : Plot} {end : ℕ} → p ≡ plotIn s log i → r ≡ false → end ≡ larger top (p .address .0 + p .size) → Searching text t s log e row count (i + 1) end
+        searching-next g y z =
             record {
               charted = c .charted;
+              ends = rw z (ends-here text t s log e row (c .charted) i searching-low g (c .ends));
               all = c .all;
               same = sym (from-on (known text t e) (allShapes text t e) (registersOf text t e row) i searching-low is-register (sym f ∙ y)) ∙ c .same;
             }

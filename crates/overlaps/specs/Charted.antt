@@ -8,12 +8,16 @@ use lib.ListN.{length}
 use Rattle.basics.specs.declared.Fault.the-variants.{None}
 use Rattle.components.specs.declared.Component.{Component}
 use Rattle.components.specs.declared.Component.the-variants as component
+use Rattle.basics.specs.All.{All}
 use Rattle.basics.specs.Slices.{cellOf}
 use Rattle.cells.specs.Definitions.{Definition}
 use Rattle.basics.specs.Limits.{registerLimit, addressEnd}
+use Rattle.layout.specs.Layout.{shapeAt}
+use Rattle.layout.specs.declared.Shape.{Shape}
 use Rattle.sizes.specs.declared.Extent.{Extent}
 use Rattle.sizes.specs.Ready.{known}
 use Rattle.sizes.specs.Shapes.{shapeIn, allShapes}
+use Rattle.map_rules.specs.Visits.{Visit}
 use Rattle.map_rules.specs.Whole.{isSharedLawfully}
 use Rattle.map_walk.specs.Runs.{logWidth}
 use Rattle.map_walk.specs.Walks.{Shaped, Logs, elementsOf, registersOf, surveyFault}
@@ -25,6 +29,10 @@ pub record Charted (text t s log : List ℕ) (e : Extent) (row : ℕ) : Type 0 w
   pub logs : Logs log (registersOf text t e row)
   pub few : length (registersOf text t e row) ≤ registerLimit
   pub sound : surveyFault (known text t e) (allShapes text t e) (elementsOf text t e row) ≡ None
+
+-- registers that all end at this address or below it
+abbrev pub EndBy : List Shape → ℕ → List Visit → Type 0
+EndBy shapes top us = All (λ (u : Visit). u .address .0 + shapeAt shapes (u .type) .size ≤ top) us
 
 -- whether a field has this access; what is no field has each
 abbrev pub hasIn : ℕ → Component → Bool

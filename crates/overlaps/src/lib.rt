@@ -15,7 +15,7 @@ ghost use Rattle.sizes.specs.Shapes.{allShapes};
 ghost use Rattle.map_rules.specs.Whole.{hasAccess, isPair, overlapsOne, overlapping};
 ghost use Rattle.map_walk.specs.Runs.{logWidth};
 ghost use Rattle.map_walk.specs.Walks.{visitAt, elementsOf, registersOf};
-ghost use Rattle.overlaps.specs.Charted.{Charted, hasIn, plotIn, plotsOverlap, PlotFits};
+ghost use Rattle.overlaps.specs.Charted.{Charted, EndBy, hasIn, plotIn, plotsOverlap, PlotFits};
 
 // A register of the log: its type's row, its address and its size in bytes.
 pub struct Plot {
@@ -110,7 +110,7 @@ fn is_overlap(text: &[u8], cells: &[u64], extent: Extent, v: Plot, u: Plot) -> b
     !is_pair(text, cells, extent, u.row, v.row)
 }
 
-// Whether a register overlaps an earlier one.
+// Whether a register overlaps an earlier one, where all those end at `top` or below it.
 fn overlaps_earlier(
     text: &[u8],
     cells: &[u64],
@@ -118,11 +118,15 @@ fn overlaps_earlier(
     log: &[u64],
     extent: Extent,
     i: usize,
+    plot: Plot,
+    top: u64,
 ) -> bool
-    requires { ⌜ Charted (now text) (now cells) (now shapes) (now log) extent (extent .map) × (i < length (registersOf (now text) (now cells) extent (extent .map))) ⌝ }
+    requires { ⌜ Charted (now text) (now cells) (now shapes) (now log) extent (extent .map) × (i < length (registersOf (now text) (now cells) extent (extent .map))) × (plot ≡ plotIn (now shapes) (now log) i) × EndBy (allShapes (now text) (now cells) extent) top (take i (registersOf (now text) (now cells) extent (extent .map))) ⌝ }
     ensures { λ r. ⌜ r ≡ overlapsOne (known (now (text .entry)) (now (cells .entry)) extent) (allShapes (now (text .entry)) (now (cells .entry)) extent) (visitAt (registersOf (now (text .entry)) (now (cells .entry)) extent (extent .map)) i) (take i (registersOf (now (text .entry)) (now (cells .entry)) extent (extent .map))) ⌝ }
 {
-    let plot = plot_at(shapes, log, i);
+    if top <= plot.address.0 {
+        return false;
+    }
     let mut j = 0;
     while j < i {
         if is_overlap(text, cells, extent, plot, plot_at(shapes, log, j)) {
@@ -156,10 +160,13 @@ pub fn first_overlap(
     ensures { λ r. ⌜ r ≡ overlapping (known (now (text .entry)) (now (cells .entry)) extent) (allShapes (now (text .entry)) (now (cells .entry)) extent) [] (elementsOf (now (text .entry)) (now (cells .entry)) extent (extent .map)) ⌝ }
 {
     let mut i = 0;
+    let mut top = 0;
     while i < count {
-        if overlaps_earlier(text, cells, shapes, log, extent, i) {
+        let plot = plot_at(shapes, log, i);
+        if overlaps_earlier(text, cells, shapes, log, extent, i, plot, top) {
             return Fault::Refused(21, place_at(log, i));
         }
+        top = capped::larger_of(top, plot.address.0 + plot.size);
         i += 1;
     }
     Fault::None
