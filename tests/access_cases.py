@@ -1,7 +1,7 @@
 #!/usr/bin/env python3
 """The cases of reading and writing: writes crates/access_cases/stdin and the output that is due for it, its stdout.
 
-    python3 tests/access_cases.py tests/packs/replay.pack      (the conformance pack of logs)
+    python3 tests/access_cases.py crates/replay_cases/data/replay.pack     (the conformance pack of logs)
 
 The model here is a second one, written from document 01: it works on whole registers with masks, where the crates go field by field and
 bit by bit. The answers of the pack's cases are the pack's own; it is the base's, so texts with marks of request 1 are left out.
@@ -457,4 +457,5 @@ def main():
             stdout.write("\n".join([f"case {number}"] + lines) + "\n")
 
 
-main()
+if __name__ == "__main__":
+    main()

@@ -86,7 +86,7 @@ pub fn put_decimal(out: &mut [u8], room: usize, sink: Sink, n: u64) -> Sink
     put_digits(out, room, sink, 10, 19, n)
 }
 
-fn put_hex(out: &mut [u8], room: usize, start: Sink, n: u64) -> Sink
+pub fn put_hex(out: &mut [u8], room: usize, start: Sink, n: u64) -> Sink
     ensures { λ r. ⌜ Pours room (now (out .entry)) (now (out .exit)) start (hex n) r ⌝ }
 {
     let sink = put_bytes(out, room, start, b"0x");

@@ -21,7 +21,7 @@ pub enum Listed {
 }
 
 // Pours the name of a cell of 32 bytes.
-fn put_name(out: &mut [u8], room: usize, start: Sink, names: &[u8], at: usize) -> Sink
+pub fn put_name(out: &mut [u8], room: usize, start: Sink, names: &[u8], at: usize) -> Sink
     requires { ⌜ at ≤ sumBound ⌝ }
     ensures { λ r. ⌜ Pours room (now (out .entry)) (now (out .exit)) start (nameAt (now (names .entry)) at) r ⌝ }
 {
@@ -144,6 +144,25 @@ fn put_fields(
     sink
 }
 
+// Pours the map's name and a register's path.
+pub fn put_path(
+    out: &mut [u8],
+    room: usize,
+    start: Sink,
+    registers: &[u64],
+    paths: &[u8],
+    i: usize,
+    depth: u64,
+) -> Sink
+    requires { ⌜ (i ≤ registerLimit) × (depth ≤ nestLimit) ⌝ }
+    ensures { λ r. ⌜ Pours room (now (out .entry)) (now (out .exit)) start (nameAt (now (paths .entry)) 0 ++ pathText (stepsFrom (now (registers .entry)) (now (paths .entry)) (i * registerRowWidth + 6) (i * pathRowWidth + nameWidth) depth)) r ⌝ }
+{
+    let sink = put_name(out, room, start, paths, 0);
+    let index = i * basics::REGISTER_ROW_WIDTH + 6;
+    let name = i * basics::PATH_ROW_WIDTH + basics::NAME_WIDTH;
+    put_steps(out, room, sink, registers, paths, index, name, depth)
+}
+
 fn put_path_line(
     out: &mut [u8],
     room: usize,
@@ -157,10 +176,7 @@ fn put_path_line(
     ensures { λ r. ⌜ Pours room (now (out .entry)) (now (out .exit)) start (line (bytes "reg=") (nameAt (now (paths .entry)) 0 ++ pathText (stepsFrom (now (registers .entry)) (now (paths .entry)) (i * registerRowWidth + 6) (i * pathRowWidth + nameWidth) depth))) r ⌝ }
 {
     let mut sink = lines::put_bytes(out, room, start, b"reg=");
-    sink = put_name(out, room, sink, paths, 0);
-    let index = i * basics::REGISTER_ROW_WIDTH + 6;
-    let name = i * basics::PATH_ROW_WIDTH + basics::NAME_WIDTH;
-    sink = put_steps(out, room, sink, registers, paths, index, name, depth);
+    sink = put_path(out, room, sink, registers, paths, i, depth);
     lines::put_line_end(out, room, sink)
 }
 

@@ -139,7 +139,7 @@ unfolding nextValue
 next-grows base n b h = either (λ (x : ℕ). n ≤ x) (eqb b 95) (λ _. omega arith) (λ _. grow base n (digitValue b) h)
 
 -- a value does not fall as bytes follow
-value-grows : (base n : ℕ) (s : List ℕ) → 1 ≤ base → n ≤ valueFrom base n s
+pub value-grows : (base n : ℕ) (s : List ℕ) → 1 ≤ base → n ≤ valueFrom base n s
 unfolding valueFrom
 value-grows base n [] h = omega arith
 value-grows base n (b ∷ s) h = omega (arith, next-grows base n b h, value-grows base (nextValue base n b) s h)

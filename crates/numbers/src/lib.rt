@@ -41,7 +41,7 @@ fn digit_value(b: u8) -> u64
 }
 
 // The value of digits of the value `value` with one more byte, an underscore or a digit.
-fn next_value(value: u64, base: u64, b: u8) -> Numeral
+pub fn next_value(value: u64, base: u64, b: u8) -> Numeral
     requires { ⌜ (1 ≤ base) × (base ≤ 16) ⌝ }
     ensures { λ r. ⌜ r ≡ fitting 64 (nextValue base value b) ⌝ }
 {
@@ -74,7 +74,7 @@ fn value_of(part: &[u8], at: usize, base: u64) -> Numeral
     }
 }
 
-fn base_of(radix: Radix) -> u64
+pub fn base_of(radix: Radix) -> u64
     ensures { λ r. ⌜ (r ≡ baseOf radix) × (1 ≤ r) × (r ≤ 16) ⌝ }
 {
     match radix {

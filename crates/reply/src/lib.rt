@@ -20,7 +20,7 @@ const FIELDS: usize = basics::FIELD_LIMIT * basics::FIELD_ROW_WIDTH;
 const LABELS: usize = basics::FIELD_LIMIT * basics::NAME_WIDTH;
 
 // The line `refused=N at=P`.
-fn write_refusal(out: &mut [u8], number: u64, at: u64) -> usize
+pub fn write_refusal(out: &mut [u8], number: u64, at: u64) -> usize
     ensures { λ r. ⌜ Shows (now (out .entry)) (now (out .exit)) (refusalLine number at) r ⌝ }
 {
     let room = out.len();
