@@ -12,15 +12,6 @@ ghost use Rattle.io.specs.Counts.{Counts};
 // One byte more than a text may have, so that a longer one is seen to be.
 const INPUT: usize = basics::TEXT_LIMIT + 1;
 
-// The rows that the tables hold: as many as a map may have.
-const REGISTERS: usize = basics::REGISTER_LIMIT * basics::REGISTER_ROW_WIDTH;
-
-const PATHS: usize = basics::REGISTER_LIMIT * basics::PATH_ROW_WIDTH;
-
-const FIELDS: usize = basics::FIELD_LIMIT * basics::FIELD_ROW_WIDTH;
-
-const LABELS: usize = basics::FIELD_LIMIT * basics::NAME_WIDTH;
-
 // The bytes of a log that are played at once, and room for what they write: no byte writes more than 128.
 const PART: usize = 512;
 
@@ -273,10 +264,10 @@ fn replay_tables(
 
 // Plays the log of this name on the map of a text.
 fn replay_text(text: &[u8], path: &[u8]) {
-    let mut registers = [0u64; REGISTERS];
-    let mut paths = [0u8; PATHS];
-    let mut fields = [0u64; FIELDS];
-    let mut labels = [0u8; LABELS];
+    let mut registers = [0u64; reply::REGISTERS];
+    let mut paths = [0u8; reply::PATHS];
+    let mut fields = [0u64; reply::FIELDS];
+    let mut labels = [0u8; reply::LABELS];
     match compile::compile(text, &mut registers, &mut paths, &mut fields, &mut labels) {
         Compiled::Refused(number, place) => show_refusal(number as u64, place.at as u64),
         Compiled::Accepted(count, all) => {

@@ -11,15 +11,6 @@ ghost use Rattle.io.specs.Counts.{Counts};
 // Room for a text, a log, an answer and an output.
 const ROOM: usize = 65536;
 
-// The rows that the tables hold: as many as a map may have.
-const REGISTERS: usize = basics::REGISTER_LIMIT * basics::REGISTER_ROW_WIDTH;
-
-const PATHS: usize = basics::REGISTER_LIMIT * basics::PATH_ROW_WIDTH;
-
-const FIELDS: usize = basics::FIELD_LIMIT * basics::FIELD_ROW_WIDTH;
-
-const LABELS: usize = basics::FIELD_LIMIT * basics::NAME_WIDTH;
-
 // What a case comes to.
 enum CaseOutcome {
     Agrees,
@@ -125,10 +116,10 @@ fn replay_tables(
 
 // What the program writes for a text and a log.
 fn replay(text: &[u8], log: &[u8], out: &mut [u8], more: usize) -> usize {
-    let mut registers = [0u64; REGISTERS];
-    let mut paths = [0u8; PATHS];
-    let mut fields = [0u64; FIELDS];
-    let mut labels = [0u8; LABELS];
+    let mut registers = [0u64; reply::REGISTERS];
+    let mut paths = [0u8; reply::PATHS];
+    let mut fields = [0u64; reply::FIELDS];
+    let mut labels = [0u8; reply::LABELS];
     match compile::compile(text, &mut registers, &mut paths, &mut fields, &mut labels) {
         Compiled::Refused(number, place) => {
             reply::write_refusal(out, number as u64, place.at as u64)

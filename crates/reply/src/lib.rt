@@ -11,13 +11,13 @@ ghost use Rattle.compile.specs.Compiled.{over};
 ghost use Rattle.reply.specs.Reply.{refusalLine, replyTo, shownOf, Shows};
 
 // The rows that the tables of a program hold: as many as a map may have.
-const REGISTERS: usize = basics::REGISTER_LIMIT * basics::REGISTER_ROW_WIDTH;
+pub const REGISTERS: usize = basics::REGISTER_LIMIT * basics::REGISTER_ROW_WIDTH;
 
-const PATHS: usize = basics::REGISTER_LIMIT * basics::PATH_ROW_WIDTH;
+pub const PATHS: usize = basics::REGISTER_LIMIT * basics::PATH_ROW_WIDTH;
 
-const FIELDS: usize = basics::FIELD_LIMIT * basics::FIELD_ROW_WIDTH;
+pub const FIELDS: usize = basics::FIELD_LIMIT * basics::FIELD_ROW_WIDTH;
 
-const LABELS: usize = basics::FIELD_LIMIT * basics::NAME_WIDTH;
+pub const LABELS: usize = basics::FIELD_LIMIT * basics::NAME_WIDTH;
 
 // The line `refused=N at=P`.
 pub fn write_refusal(out: &mut [u8], number: u64, at: u64) -> usize
