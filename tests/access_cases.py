@@ -4,7 +4,9 @@
     python3 tests/access_cases.py crates/replay_cases/data/replay.pack     (the conformance pack of logs)
 
 The model here is a second one, written from document 01: it works on whole registers with masks, where the crates go field by field and
-bit by bit. The answers of the pack's cases are the pack's own; it is the base's, so texts with marks of request 1 are left out.
+bit by bit. The answers of the pack's cases are the pack's own; it is the base's, so texts with marks of request 1 are left out, and one
+that request 2 refuses is 17. No text gives a field across two parts that software changes, but rows with one are lawful: such rows are made
+by putting its access and effects into the rows of a text.
 stdin: for each case a little-endian u32 length and the text of a map; a u32 count, and so many commands of four little-endian u64
 numbers: 0 reset; 1 address width: read; 2 address width word: write; 3 table index value: put a number (tables: registers, paths,
 fields, labels, store); 4 table length: lend so much; 5: show the store.
@@ -16,7 +18,7 @@ import sys
 from collections import namedtuple
 from random import Random
 
-from kept_answers import has_new_marks
+from kept_answers import REQUEST_1, REQUEST_2, SPANS, amended
 
 REGISTERS, PATHS, FIELDS, LABELS, STORE = range(5)
 UNTOUCHED, PAST = 77, 2
@@ -35,12 +37,19 @@ def ones(count):
 
 # --- the second model ---
 
+def as_text_has_it(register, field):
+    """The field, but across two parts read-only and without effects: no text gives another one there (17)."""
+    if field.low // register.access == field.high // register.access:
+        return field
+    return field._replace(sw="r" if "w" in field.sw else field.sw, onread="none", onwrite="none")
+
+
 def text_of(registers):
-    """A text whose map has these registers, each at its own address."""
+    """A text whose map has these registers, each at its own address, but for what no text can give."""
     lines = []
     for number, register in enumerate(registers):
         fields = ""
-        for k, field in enumerate(register.fields):
+        for k, field in enumerate(as_text_has_it(register, field) for field in register.fields):
             effects = f"onread={field.onread};" * (field.onread != "none") + f"onwrite={field.onwrite};" * (field.onwrite != "none")
             reset = "" if field.reset is None else f"={field.reset}"
             fields += f"field{{sw={field.sw};{effects}}}f{k}[{field.high}:{field.low}]{reset};"
@@ -133,6 +142,10 @@ class Case:
         self.commands, self.lines = [], []
         self.unlawful = False
         self.room = len(self.post.store)
+        for row, (register, field) in enumerate(self.post.rows):
+            for column, words, name in ((2, SW, "sw"), (4, ONREAD, "onread"), (5, ONWRITE, "onwrite")):
+                if getattr(field, name) != getattr(as_text_has_it(register, field), name):
+                    self.command(3, FIELDS, 8 * row + column, words.index(getattr(field, name)))
 
     def command(self, code, a=0, b=0, c=0):
         self.commands.append((code, a, b, c))
@@ -266,7 +279,7 @@ def effects_case(width):
 
 
 def parts_case():
-    """Partial accesses of a 64-bit register with 32-bit access: a field that spans the parts is read part by part."""
+    """Partial accesses of a 64-bit register with 32-bit access: a field that spans the parts is read, and cleared, part by part."""
     fields = [Field(16, 47, "r", "rclr", "none", None), Field(0, 15, "rw", "rset", "wot", 5), Field(48, 63, "rw", "none", "wzt", 9)]
     case = Case([Register(8, 64, 32, fields)])
     case.reset()
@@ -280,6 +293,22 @@ def parts_case():
             case.show()
     case.access(8, 64)
     case.access(8, 64, 0)
+    return case
+
+
+def halves_case():
+    """Lawful rows that no text gives: fields across two and more parts of a register that a write or a read changes."""
+    fields = [[Field(24, 39, "rw", "rclr", effect, 0xa5c3)] for effect in ONWRITE]
+    fields += [[Field(5, 60, "w", "none", "wzt", 3), Field(61, 63, "r", "rset", "none", 2)], [Field(30, 33, "r", "rset", "none", 6)]]
+    case = Case([Register(8 * k, 64, 32 if k % 2 else 16, each) for k, each in enumerate(fields)])
+    case.reset()
+    case.show()
+    for register in case.post.registers:
+        size = register.access // 8
+        for address in range(register.address, register.address + 8, size):
+            for word in (0x55aa33cc & ones(register.access), None, ones(register.access), 0, None):
+                case.access(address, register.access, word)
+            case.show()
     return case
 
 
@@ -442,12 +471,19 @@ def pack_line(words):
     return f"word={word} {words[1]}"
 
 
+def made(case):
+    return case.text, case.commands, case.lines
+
+
 def main():
     cases = [effects_case(width) for width in WIDTHS] + [parts_case(), pairs_case(), store_case(), unlawful_case(), cut_case(), largest_case()]
     cases += [random_case(seed) for seed in range(300)]
-    cases = [(case.text, case.commands, case.lines) for case in cases]
+    cases = [made(case) for case in cases]
     with open(sys.argv[1], "rb") as pack:
-        cases += [pack_case(text, answer) for text, _, answer in pack_cases(pack.read()) if not has_new_marks(text)]
+        cases += [pack_case(text, SPANS if why == REQUEST_2 else answer)
+                  for text, answer, why in ((text, answer, amended(text, answer)) for text, _, answer in pack_cases(pack.read()))
+                  if why != REQUEST_1]
+    cases += [made(halves_case())]
     folder = os.path.join(os.path.dirname(os.path.abspath(__file__)), "..", "crates", "access_cases")
     with open(os.path.join(folder, "stdin"), "wb") as stdin, open(os.path.join(folder, "stdout"), "w") as stdout:
         for number, (text, commands, lines) in enumerate(cases):

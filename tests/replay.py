@@ -21,7 +21,7 @@ import tempfile
 from random import Random
 
 from access_cases import WIDTHS, Field, Post, Register, ones, pack_cases
-from kept_answers import has_new_marks
+from kept_answers import REQUEST_1, REQUEST_2, SPANS, amended
 
 TESTS = pathlib.Path(__file__).resolve().parent
 RDLC = TESTS.parent / "target" / "bin" / "rdlc"
@@ -199,9 +199,10 @@ def compare_pack(path):
             given = make(text, log)
             agreed[name] += given == answer
             if given != answer:
-                others += not has_new_marks(text)
+                why = amended(text, answer)
+                others += not (why == REQUEST_1 or why == REQUEST_2 and given.startswith(SPANS))
                 due, got = first_difference(answer, given)
-                print(f"case {number}, {name}: the pack has {due}, here {got}" + " (marks of request 1)" * has_new_marks(text))
+                print(f"case {number}, {name}: the pack has {due}, here {got}" + (f" ({why})" if why else ""))
     print(f"cases={cases} second={agreed['second']} program={agreed['program']}")
     sys.exit(others > 0)
 

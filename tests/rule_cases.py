@@ -2,7 +2,7 @@
 """The cases of the rules stage: writes crates/rule_cases/stdin and the output that is due for it, its stdout.
 
 The judge here is a second one, written from document 01 and the decisions on it, by an author who had not read the crates of the
-rules stage; what it knows of sums (request 1) was added by one who had. Its words come from the second lexer, tests/word_cases.py,
+rules stage; what it knows of requests 1 and 2 was added by those who had. Its words come from the second lexer, tests/word_cases.py,
 its sentences and numbers from the second readers, tests/sentence_cases.py and tests/expressions.py; it builds the tree of a text that
 passes both, and collects the faults of that tree.
 stdin: for each case a little-endian u32 length, then the text. stdout: for each case a line with the case's number and
@@ -177,8 +177,8 @@ SUFFIXES = {
 
 # --- the judge ---
 
-Component = namedtuple("Component", "kind sw reset")  # the last two for a field alone
-Placed = namedtuple("Placed", "low high sw reset")  # a field in a register
+Component = namedtuple("Component", "kind sw onread reset")  # the last three for a field alone
+Placed = namedtuple("Placed", "low high sw onread reset")  # a field in a register
 
 
 class Body:
@@ -210,6 +210,11 @@ class Body:
 
 def overlap(one, other):
     return one.low <= other.high and other.low <= one.high and {one.sw, other.sw} != {b"r", b"w"}
+
+
+def halved(field, part):
+    """Whether software changes the field, by a write or by a read, and an access has a part of it only."""
+    return (field.sw in (b"w", b"rw") or field.onread != b"none") and field.low // part != field.high // part
 
 
 class Judge:
@@ -244,7 +249,7 @@ class Judge:
         body = Body(kind, outer)
         for element in node.elements:
             self.element(element, body)
-        component = Component(kind, body.value(b"sw", b"rw"), body.value(b"reset", 0))
+        component = Component(kind, body.value(b"sw", b"rw"), body.value(b"onread", b"none"), body.value(b"reset", 0))
         self.close(body, component, node.brace)
         if node.name:
             outer.types[node.name.content] = component
@@ -317,12 +322,12 @@ class Judge:
         width, = numbers(b"[", [1])
         high, low = numbers(b"[:]", [low + width - 1, low])
         reset, = numbers(b"=", [component.reset])
-        body.fields.append(Placed(low, high, component.sw, reset))
+        body.fields.append(Placed(low, high, component.sw, component.onread, reset))
 
     def close(self, body, component, brace):
         self.demand(body.kind == FIELD or body.instance_names, 10, brace)
         if body.kind == FIELD:
-            self.demand(body.value(b"onread", b"none") == b"none" or component.sw in (b"r", b"rw"), 12, brace)
+            self.demand(component.onread == b"none" or component.sw in (b"r", b"rw"), 12, brace)
             self.demand(body.value(b"onwrite", b"none") == b"none" or component.sw in (b"w", b"rw"), 12, brace)
         if body.kind == REG:
             self.register(body, brace)
@@ -335,7 +340,7 @@ class Judge:
         self.demand(part <= width, 14, brace)
         self.demand(all(field.high < width for field in fields), 15, brace)
         self.demand(not any(overlap(one, other) for one, other in combinations(fields, 2)), 16, brace)
-        self.demand(all(field.low // part == field.high // part for field in fields if field.sw in (b"w", b"rw")), 17, brace)
+        self.demand(not any(halved(field, part) for field in fields), 17, brace)
 
 
 def answer(text):
@@ -1037,9 +1042,30 @@ def sums_composed():
     return [summed(text, seed) for seed, text in enumerate(composed())]
 
 
+def halves():
+    """17 by reading (request 2): counts within one part and across two, with an effect of their own, by a default, by a type, or none."""
+    counts = [b"regwidth = %d; accesswidth = %d; field { # } f[%d:%d];" % (width, part, high, low)
+              for width, part in ((64, 32), (64, 8), (16, 8))
+              for high, low in ((part - 1, 0), (part, part - 1), (part, part), (width - 1, part - 2))]
+    effects = each(b" | rclr; | rset; | onread = rclr; | onread = rset; | rclr = false; | rset = false;")
+    own = joined([b"", b"sw = r;", b"sw = na;"], effects)
+    texts = [text for count in counts for text in fill(REGISTER, fill(count, own))]
+    defaults = each(b"default rclr; | default rset; | default onread = rset; | default rclr = false;")
+    few = each(b"sw = r; | sw = r; rclr = false; | sw = r; rset; | sw = na; rset = false; |")
+    under = [text for count in counts[:4] for text in fill(count, few)]
+    texts += [b"addrmap m { %s reg { %s } k; };" % case for case in product(defaults, under)]
+    used = each(b"""field F { sw = r; # }; reg { regwidth = 64; accesswidth = 32; F f[32:31]; } k; |
+        field F { sw = r; # }; default rset; reg { regwidth = 64; accesswidth = 32; F f[32:31]; } k; |
+        default sw = r; default rclr; field F { # }; reg { regwidth = 64; accesswidth = 32; F f[30:0], g[33]; } k; |
+        default sw = r; regfile { default rset; reg { accesswidth = 16; field { # } f[17]; } k; } p; |
+        default sw = r; reg { accesswidth = 16; default rclr; field { # } f[17]; } k; |
+        default accesswidth = 8; reg { field { sw = r; # } f[8], g[8], h[9]; } k;""")
+    return texts + fill(b"addrmap m { # };", [text for form in used for text in fill(form, [b"", b"rclr;", b"rset;", b"rclr = false;"])])
+
+
 GROUPS = [classroom, kinds, held, missing_instances, maps, names, scopes, properties, twice, values, suffix_sets, suffix_numbers,
           effects, defaults, reach, widths, positions, resets, overlaps, one_place, several, unused, counts, many, spaced, changed,
-          composed, sum_values, sum_suffixes, sum_rules, sum_faults, sum_stages, long_sums, numbers_changed, sums_composed]
+          composed, sum_values, sum_suffixes, sum_rules, sum_faults, sum_stages, long_sums, numbers_changed, sums_composed, halves]
 
 
 if __name__ == "__main__":

@@ -1,7 +1,7 @@
--- The fields of a register that keeps the rules 12 to 15.
+-- The fields of a register that keeps the rules 12 to 17.
 use mathlib.Core.Path.{_≡_, refl, ap, _∙_}
 use mathlib.Core.Bool.{true, false, not}
-use mathlib.Core.List.{List, _∷_}
+use mathlib.Core.List.{List, [], _∷_}
 use Prim.Native.Nat.{ℕ, _<_, _≤_}
 use native.Mathlib.Omega.{arith}
 use lib.Dec.{leb}
@@ -27,6 +27,8 @@ use Rattle.fields.specs.declared.Probe.the-variants.{Wide, Outside}
 use Rattle.components.proofs.Laws.{sound-width}
 use Rattle.cells.specs.Definitions.{Child, Definition, definitionOf}
 use Rattle.closing_rules.specs.Registers.{placement, bitAbove, withPlaced, fieldsFrom, some, closingFault}
+use Rattle.closing_rules.specs.declared.Placed.{Placed}
+use Rattle.closing_rules.specs.declared.Placed.the-variants as placed
 use Rattle.scopes.specs.Places.{mayHold}
 use Rattle.scopes.specs.declared.Enclosing.the-variants.{Inside}
 use Rattle.definition_laws.specs.Sensible.{Sensible, ValuesFit, field-fits, ChildrenFit, children-none, children-more}
@@ -85,6 +87,25 @@ module _ (p : Probe) (f : FieldAt) (fs : List FieldAt) (e : some p (f ∷ fs) �
   none-later : some p fs ≡ false
   unfolding some
   none-later = or-right (breaks p f) (some p fs) e
+
+-- a rule that no field of a register breaks, no field row breaks
+abbrev pub Unbroken : Probe → Field → Type 0
+Unbroken p f = breaks p (f .at) ≡ false
+
+module _ (p : Probe) (rest : List FieldAt) (rows : List Field) where
+  child-keeps : (name : List ℕ) (q : Placed) → some p (withPlaced q rest) ≡ false → (some p rest ≡ false → All (Unbroken p) rows)
+      → All (Unbroken p) (withField name q rows)
+  child-keeps name (placed.Field f) e later = all-more (none-first p f rest e) (later (none-later p f rest e))
+  child-keeps name placed.Other e later = later e
+
+pub rows-keep : (text : List ℕ) (table : List Definition) (p : Probe) (next : BitPlace) (cs : List Child) → some p (fieldsFrom table next cs) ≡ false
+    → All (Unbroken p) (rowFields text table next cs)
+unfolding fieldsFrom rowFields
+rows-keep text table p next [] e = all-none
+rows-keep text table p next (c ∷ cs) e =
+    let q : Placed = placement (definitionOf table (c .type) .component) next (c .instance) in
+    let above : BitPlace = bitAbove q next in
+    child-keeps p (fieldsFrom table above cs) (rowFields text table above cs) (bytesIn text (c .instance .name)) q e (λ r. rows-keep text table p above cs r)
 
 -- an instance in a register
 record Keeps (width : ℕ) (fs : List FieldAt) : Type 0 where

@@ -1,5 +1,5 @@
--- Accepted rows are lawful.
-use mathlib.Core.Path.{_≡_, refl}
+-- Accepted rows are lawful, and their fields keep 17.
+use mathlib.Core.Path.{_≡_, refl, subst}
 use mathlib.Core.Bool.{true}
 use mathlib.Core.List.{List, []}
 use Prim.Native.Nat.{ℕ, suc}
@@ -25,6 +25,7 @@ use Rattle.basics.specs.All.{All}
 use Rattle.row_laws.specs.Sound.{fieldsIn, SoundMap}
 use Rattle.row_laws.proofs.Faithful.{sound-lawful, sound-read}
 use Rattle.compile_laws.specs.Named.{NamedMeaning}
+use Rattle.compile_laws.specs.Parts.{WithinParts}
 use Rattle.compile_laws.proofs.Named.{ruled-stages, ruled-named}
 use Rattle.map_rules.specs.Visits.{Visit, isGroup}
 use Rattle.map_rules.specs.Whole.{mapVisits, mapShapes, mapFault, isRegisterVisit, registersAmong, fieldsAmong}
@@ -36,7 +37,7 @@ use Rattle.basics.proofs.All.{all-both, all-map}
 use Rattle.compile_laws.proofs.Stages.{Accepting, accepting, not-many, not-misplaced}
 use Rattle.compile_laws.proofs.Steps.{StepFits, map-seen}
 use Rattle.map_rules.proofs.Elements.{Seen}
-use Rattle.compile_laws.proofs.Registers.{RegisterSeen, register-holds, entries-sound}
+use Rattle.compile_laws.proofs.Registers.{RegisterSeen, register-holds, entries-sound, entries-within}
 use Rattle.compile_laws.proofs.Reaching.{Short, Has, has-some, visits-reach, few-registers, few-fields}
 
 map-group : (c : Component) → kindOf c ≡ kind.Addrmap → isGroup c ≡ true
@@ -86,13 +87,28 @@ module _ (text : List ℕ) (m : Meaning) (s : SensibleMeaning m) (n : NamedMeani
         fields = omega (arith, f, few-fields (m .table) 0 0 (mapVisits m) (omega arith) (not-many m e));
       }
 
-map-sound : (text : List ℕ) (m : Meaning) → ruled text ≡ fine m → mapFault m ≡ None → SoundMap (mapOf text m)
-map-sound text m r e = meaning-sound text m (judge-sensible text (ruled-stages text m r .tree) (ruled-stages text m r .judged)) (ruled-named text m r) e
+  meaning-within : All WithinParts (mapOf text m .entries)
+  meaning-within = entries-within text (m .table) (modeOf (definitionOf (m .table) (m .map) .component)) all-registers
+
+module _ (text : List ℕ) (m : Meaning) (r : ruled text ≡ fine m) (e : mapFault m ≡ None) where
+  sensible : SensibleMeaning m
+  sensible = judge-sensible text (ruled-stages text m r .tree) (ruled-stages text m r .judged)
+
+  map-sound : SoundMap (mapOf text m)
+  map-sound = meaning-sound text m sensible (ruled-named text m r) e
+
+  map-within : All WithinParts (mapOf text m .entries)
+  map-within = meaning-within text m sensible (ruled-named text m r) e
 
 pub accepted-sound : (text : List ℕ) (m : Map) → compiled text ≡ fine m → SoundMap m
 accepted-sound text m e =
     let a : Accepting text m = accepting text m e in
     rw (a .same) at (map-sound text (a .meaning) (a .rules) (a .sound))
+
+pub accepted-within : (text : List ℕ) (m : Map) → compiled text ≡ fine m → All WithinParts (m .entries)
+accepted-within text m e =
+    let a : Accepting text m = accepting text m e in
+    subst (λ (n : Map). All WithinParts (n .entries)) (a .same) (map-within text (a .meaning) (a .rules) (a .sound))
 
 pub accepted-lawful : (text : List ℕ) (m : Map) → compiled text ≡ fine m → lawful (tablesOf m) ≡ true
 accepted-lawful text m e = sound-lawful m (accepted-sound text m e)

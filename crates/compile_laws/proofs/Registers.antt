@@ -1,4 +1,4 @@
--- The registers of a map that keeps the rules: their rows are sound.
+-- The registers of a map that keeps the rules: their rows are sound, and their fields keep 17.
 use mathlib.Core.Path.{_≡_, refl, sym, ap, _∙_}
 use mathlib.Core.Bool.{true, false}
 use mathlib.Core.List.{List, [], _∷_}
@@ -12,9 +12,10 @@ use Rattle.fields.specs.declared.FieldAt.{FieldAt}
 use Rattle.fields.specs.declared.Register.{Register}
 use Rattle.components.specs.declared.Component.{Component}
 use Rattle.components.specs.declared.Component.the-variants as component
-use Rattle.fields.specs.declared.Probe.the-variants.{Wide, Outside}
+use Rattle.fields.specs.Fields.{breaks}
+use Rattle.fields.specs.declared.Probe.the-variants.{Wide, Outside, Span}
 use Rattle.cells.specs.Definitions.{Child, Definition, definitionOf}
-use Rattle.closing_rules.specs.Registers.{firstBit, fieldsOf, some, registerFault, isEmpty, closingFault}
+use Rattle.closing_rules.specs.Registers.{firstBit, fieldsOf, some, overlaps, registerFault, isEmpty, closingFault}
 use Rattle.definition_laws.specs.Sensible.{Sensible, ValuesFit, register-fits, ChildrenFit}
 use Rattle.layout.specs.Layout.{shapeAt, shapeOf, shapesFrom}
 use Rattle.layout.specs.declared.Shape.{Shape}
@@ -27,10 +28,11 @@ use Rattle.map_rules.specs.Whole.{isRegister}
 use Rattle.overlaps.proofs.Visits.{Sited}
 use Rattle.row_writer.specs.Entries.{stepsOf, rowFields, widthsOf, entryOf, entriesOf}
 use Rattle.compile.proofs.Counts.{register-counted}
+use Rattle.compile_laws.specs.Parts.{WithinParts}
 use Rattle.compile_laws.proofs.Lists.{none-test, none-on}
 use Rattle.compile_laws.proofs.Steps.{Names, StepFits, path-sound, path-length}
 use Rattle.map_rules.proofs.Elements.{Seen}
-use Rattle.compile_laws.proofs.Fields.{rows-same, fields-sound}
+use Rattle.compile_laws.proofs.Fields.{Unbroken, rows-same, rows-keep, fields-sound}
 
 -- a register breaks no rule at its closing brace
 module _ (table : List Definition) (r : Register) (cs : List Child) (e : closingFault table (component.Register r) cs ≡ 0) where
@@ -54,6 +56,12 @@ fault-inside : (r : Register) (fs : List FieldAt) → registerFault r fs ≡ 0 �
 unfolding registerFault
 fault-inside r fs e = none-test 14 _ (some (Outside (r .width)) fs) (none-on 13 _ (ltb (r .width) (r .access)) (none-on 12 _ (some Wide fs) e))
 
+fault-within : (r : Register) (fs : List FieldAt) → registerFault r fs ≡ 0 → some (Span (r .access)) fs ≡ false
+unfolding registerFault
+fault-within r fs e =
+    none-test 16 0 (some (Span (r .access)) fs)
+    (none-on 15 _ (overlaps fs) (none-on 14 _ (some (Outside (r .width)) fs) (none-on 13 _ (ltb (r .width) (r .access)) (none-on 12 _ (some Wide fs) e))))
+
 some-instance : (cs : List Child) → isEmpty cs ≡ false → 1 ≤ length cs
 some-instance [] e = absurd (let z : _≡_ {A = ℕ} 0 1 = cc in omega arith)
 some-instance (c ∷ cs) e = omega arith
@@ -69,6 +77,7 @@ pub record RegisterHolds (text : List ℕ) (table : List Definition) (mode row :
   pub parts : shapeAt (shapesFrom mode [] table) row .access ≡ register .access / 8
   pub held : 1 ≤ length (rowFields text table firstBit (definitionOf table row .instances))
   pub fields : All (SoundField (register .width)) (rowFields text table firstBit (definitionOf table row .instances))
+  pub within : All (Unbroken (Span (register .access))) (rowFields text table firstBit (definitionOf table row .instances))
 
 register-widths : {r : Register} → ValuesFit (component.Register r) → (isWidth (r .width) ≡ true) × (isWidth (r .access) ≡ true)
 register-widths (register-fits p q) = (p, q)
@@ -103,6 +112,7 @@ register-by text table mode row s names low (component.Register r) k y =
       parts = ap (λ (s : Shape). s .access) z;
       held = omega (arith, n, some-instance cs (register-full (f .before) r cs e));
       fields = rw same at a;
+      within = rw same at (rows-keep text (f .before) (Span (r .access)) firstBit cs (fault-within r fs g));
     }
 
 pub register-holds : (text : List ℕ) (table : List Definition) (mode row : ℕ) → Sensible table → Names text table → row < length table
@@ -135,6 +145,15 @@ entry-sound text table mode v s =
       held = s .type .held;
       fields = rw width (s .type .fields);
     }
+
+pub entry-within : (text : List ℕ) (table : List Definition) (mode : ℕ) (v : Visit) → RegisterSeen text table mode v → WithinParts (entryOf text table v)
+unfolding breaks
+entry-within text table mode v s = rw (ap widthsOf (s .type .known-as)) (s .type .within)
+
+pub entries-within : (text : List ℕ) (table : List Definition) (mode : ℕ) {vs : List Visit} → All (RegisterSeen text table mode) vs → All WithinParts (entriesOf text table vs)
+unfolding entriesOf
+entries-within text table mode all-none = all-none
+entries-within text table mode (all-more {x = v} p a) = all-more (entry-within text table mode v p) (entries-within text table mode a)
 
 pub entries-sound : (text : List ℕ) (table : List Definition) (mode : ℕ) {vs : List Visit} → All (RegisterSeen text table mode) vs → All SoundEntry (entriesOf text table vs)
 unfolding entriesOf

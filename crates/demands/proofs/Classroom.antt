@@ -27,7 +27,7 @@ use Rattle.basics.specs.Judged.{Judged, fault, fine, onward, unless}
 use Rattle.properties.specs.Assigned.{assign, nearest, assigned}
 use Rattle.properties.specs.Properties.{judgeValue, judgeKnown, judgeProperty}
 use Rattle.components.specs.Components.{componentOf}
-use Rattle.fields.specs.Fields.{isReadable, isWritable, hasUnusableEffect, isResetWide, isOutside, isReadWritePair, isOverlap, spansParts, breaks}
+use Rattle.fields.specs.Fields.{isReadable, isWritable, hasUnusableEffect, isResetWide, isOutside, isReadWritePair, isOverlap, isChangedByAccess, spansParts, breaks}
 use Rattle.components.specs.Fields.{fieldAt}
 use Rattle.cells.specs.Definitions.{lookup}
 use Rattle.closing_rules.specs.Registers.{fieldsFrom, some, overlaps, registerFault, closingFault}
@@ -125,5 +125,5 @@ sums =
     []
 
 pub worked : map (λ s. answer (s .question) (bytes (s .text))) sums ≡ map (λ s. s .due) sums
-unfolding sums registersAmong isPair isWithin isBlank isLineEnd isLetter isNameByte isNumberByte isHexDigit isSpacedDigit run every sameBytes chosen entry keywordOf propertyOf markOf digitValue nextValue valueFrom fitting radixOf plainDigits spacedDigits widthOf sizedNumber sizedAt hexPrefixed hexNumber numberOf blanks nextFrom closes closing nameWord nameToken numberToken stringToken markToken tokenFrom tokenAt andThen mapped isName kindOf isKind isDefault isProperty isMark isEnd closedBy nameAt resultOf partOf inRow operatorIn earlier given settled joined evaluated joinedFrom rowAt closedAt operandWith operandAt expressionAt numberAt arrayRestAt arrayAt suffixAt setSuffix withSuffix bareAt instanceAt partedAt listedAt valueAt settingAt propertyWordAt propertyAt headerRestAt headerAt startsInstances instancesFrom instancesAt instanceStatementAt statementAt tailAt elementAt elementsAt definitionWith definitionAt definitionsFrom fileAt isAllowed isWidth isPowerTo settingAs settingOf refusalIn ranged settledFault isSize isRange suffixRange isBarred instanceFault bytesOf sameName isAmong isReadable isWritable hasUnusableEffect some isResetWide isOutside isReadWritePair isOverlap overlaps spansParts onward unless lookup mayDefine mayHold isBadMap assigned judgeValue judgeKnown judgeProperty judgeInstances judgeUse declared judgeDefinition judgeElem judgeBody judgeFile judge assign nearest componentOf fieldAt breaks fieldsFrom registerFault closingFault judgeSetting closed raised multipleFrom commonMultiple powerFrom powerAbove larger strideOf spanOf modeStep stepOf laid laidFrom highestEnd largestAccess shapesFrom elementVisits childVisits visitsIn tooMany tooClose misplaced everyAccess isSharedLawfully overlapRegisters overlapsOne overlapping mapFault heron reading lighting firstBad wordsVerdict ruled stepsOf rowFields entriesOf compile.mapped compiled padded indices nameCells registerCells pathCells fieldCells fieldRun labelRun registerTable pathTable fieldTable labelTable follows allFollow rows.isName isPathCell areNames areZero isIndex areIndices areSame registerRow isPlaced isRun isPath fieldValues fieldRow isRanged isSoundField isResetForm isFieldRow areFieldRows isRegisterRow areRows areWhole lawful nameFrom stepsFrom reading-rows.fieldsFrom entriesFrom bit number writeAction readAction fits stepped anyReached gives storedIn storedAmong sizesOf refusalOf answerOf storeAfter storeAfterAll answersOf
+unfolding sums registersAmong isPair isWithin isBlank isLineEnd isLetter isNameByte isNumberByte isHexDigit isSpacedDigit run every sameBytes chosen entry keywordOf propertyOf markOf digitValue nextValue valueFrom fitting radixOf plainDigits spacedDigits widthOf sizedNumber sizedAt hexPrefixed hexNumber numberOf blanks nextFrom closes closing nameWord nameToken numberToken stringToken markToken tokenFrom tokenAt andThen mapped isName kindOf isKind isDefault isProperty isMark isEnd closedBy nameAt resultOf partOf inRow operatorIn earlier given settled joined evaluated joinedFrom rowAt closedAt operandWith operandAt expressionAt numberAt arrayRestAt arrayAt suffixAt setSuffix withSuffix bareAt instanceAt partedAt listedAt valueAt settingAt propertyWordAt propertyAt headerRestAt headerAt startsInstances instancesFrom instancesAt instanceStatementAt statementAt tailAt elementAt elementsAt definitionWith definitionAt definitionsFrom fileAt isAllowed isWidth isPowerTo settingAs settingOf refusalIn ranged settledFault isSize isRange suffixRange isBarred instanceFault bytesOf sameName isAmong isReadable isWritable hasUnusableEffect some isResetWide isOutside isReadWritePair isOverlap overlaps isChangedByAccess spansParts onward unless lookup mayDefine mayHold isBadMap assigned judgeValue judgeKnown judgeProperty judgeInstances judgeUse declared judgeDefinition judgeElem judgeBody judgeFile judge assign nearest componentOf fieldAt breaks fieldsFrom registerFault closingFault judgeSetting closed raised multipleFrom commonMultiple powerFrom powerAbove larger strideOf spanOf modeStep stepOf laid laidFrom highestEnd largestAccess shapesFrom elementVisits childVisits visitsIn tooMany tooClose misplaced everyAccess isSharedLawfully overlapRegisters overlapsOne overlapping mapFault heron reading lighting firstBad wordsVerdict ruled stepsOf rowFields entriesOf compile.mapped compiled padded indices nameCells registerCells pathCells fieldCells fieldRun labelRun registerTable pathTable fieldTable labelTable follows allFollow rows.isName isPathCell areNames areZero isIndex areIndices areSame registerRow isPlaced isRun isPath fieldValues fieldRow isRanged isSoundField isResetForm isFieldRow areFieldRows isRegisterRow areRows areWhole lawful nameFrom stepsFrom reading-rows.fieldsFrom entriesFrom bit number writeAction readAction fits stepped anyReached gives storedIn storedAmong sizesOf refusalOf answerOf storeAfter storeAfterAll answersOf
 worked = refl

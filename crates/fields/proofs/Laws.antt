@@ -1,16 +1,17 @@
 -- Laws of the definitions, one for each way that the code goes.
 use mathlib.Core.Bool.{Bool, true, false, _||_, _&&_, not}
-use mathlib.Core.Path.{_≡_, refl, sym, _∙_}
+use mathlib.Core.Path.{_≡_, refl, sym, _∙_, subst}
 use Prim.Native.Nat.{ℕ, suc, _+_, _-_, _*_, _/_, _%_, _^_, _<_, _≤_}
 use native.Mathlib.Nat.{pow-le-pow-right, div-zero}
 use native.Mathlib.Omega.{arith}
 use lib.Dec.{eqb, leb, ltb}
 use lib.Pow.{shl-exact}
-use borrow.Author.Tests.{eq-eqb, ne-eqb, lt-leb}
+use borrow.Author.Tests.{eq-eqb, ne-eqb, lt-leb, eqb-true}
 use Rattle.chars.proofs.Laws.{and-false}
 use Rattle.fields.specs.declared.FieldType.{FieldType}
 use Rattle.fields.specs.declared.FieldAt.{FieldAt}
-use Rattle.fields.specs.Fields.{isReadable, isWritable, hasUnusableEffect, isWide, isResetWide, isReadWritePair, isOverlap, spansParts}
+use Rattle.fields.specs.Codes.{isWidth}
+use Rattle.fields.specs.Fields.{isReadable, isWritable, hasUnusableEffect, isWide, isResetWide, isReadWritePair, isOverlap, isChangedByAccess, spansParts}
 
 -- a number against the numbers of words, which calls answer
 module _ (a : ℕ) {r k : ℕ} (e : r ≡ k) where
@@ -25,6 +26,27 @@ module _ (a : ℕ) {r k : ℕ} (e : r ≡ k) where
 
   pub both-yes : (b : ℕ) {s m : ℕ} → a ≡ r → s ≡ m → eqb b s ≡ (eqb a k && eqb b m)
   both-yes b f g = rw (eq-eqb a k (f ∙ e), g)
+
+-- what holds of 8, 16, 32 and 64 holds of every width
+module _ (P : ℕ → Type 0) (eight : P 8) (sixteen : P 16) (thirty-two : P 32) (sixty-four : P 64) (n : ℕ) where
+  pub width-cases : isWidth n ≡ true → P n
+  unfolding isWidth
+  width-cases e = by8 (eqb n 8) refl e
+    where
+      by64 : eqb n 64 ≡ true → P n
+      by64 q = subst P (sym (eqb-true n 64 q)) sixty-four
+
+      by32 : (b : Bool) → eqb n 32 ≡ b → (b || eqb n 64) ≡ true → P n
+      by32 true q f = subst P (sym (eqb-true n 32 q)) thirty-two
+      by32 false q f = by64 f
+
+      by16 : (b : Bool) → eqb n 16 ≡ b → (b || (eqb n 32 || eqb n 64)) ≡ true → P n
+      by16 true q f = subst P (sym (eqb-true n 16 q)) sixteen
+      by16 false q f = by32 (eqb n 32) refl f
+
+      by8 : (b : Bool) → eqb n 8 ≡ b → (b || (eqb n 16 || (eqb n 32 || eqb n 64))) ≡ true → P n
+      by8 true q f = subst P (sym (eqb-true n 8 q)) eight
+      by8 false q f = by16 (eqb n 16) refl f
 
 -- 12, where the tests of the access answer `u` and `v`
 module _ (f : FieldType) {u r : Bool} (e : u ≡ isReadable f) (g : r ≡ (ltb 0 (f .onread) && not u)) where
@@ -87,13 +109,23 @@ module _ (f g : FieldAt) {r : Bool} (e : r ≡ (leb (f .low .0) (g .high .0) && 
   unfolding isOverlap
   overlap-no h = rw (← e, h)
 
+-- a field that may be written is changed, and of the others one with an effect on reading
+module _ (f : FieldType) {r : Bool} (e : r ≡ isWritable f) where
+  pub changed-yes : r ≡ true → true ≡ isChangedByAccess f
+  unfolding isChangedByAccess
+  changed-yes g = rw (← e, g)
+
+  pub changed-no : r ≡ false → ltb 0 (f .onread) ≡ isChangedByAccess f
+  unfolding isChangedByAccess
+  changed-no g = rw (← e, g)
+
 -- no field spans parts of no bits
 module _ (part : ℕ) (f : FieldAt) where
   pub spans-zero : part ≡ 0 → false ≡ spansParts part f
   unfolding spansParts
-  spans-zero e = rw (e, div-zero (f .low .0), div-zero (f .high .0)) (sym (and-false (isWritable (f .values))))
+  spans-zero e = rw (e, div-zero (f .low .0), div-zero (f .high .0)) (sym (and-false (isChangedByAccess (f .values))))
 
-  module _ {r : Bool} (e : r ≡ isWritable (f .values)) where
+  module _ {r : Bool} (e : r ≡ isChangedByAccess (f .values)) where
     pub spans-yes : r ≡ true → not (eqb (f .low .0 / part) (f .high .0 / part)) ≡ spansParts part f
     unfolding spansParts
     spans-yes g = rw (← e, g)

@@ -27,9 +27,13 @@ isReadable f = eqb (f .sw) (accessCode access.R) || eqb (f .sw) (accessCode acce
 unfoldable pub isWritable : FieldType → Bool
 isWritable f = eqb (f .sw) (accessCode access.W) || eqb (f .sw) (accessCode access.Rw)
 
+-- "has any `onread` effect": 0 stands for none
+abbrev pub hasReadEffect : FieldType → Bool
+hasReadEffect f = ltb 0 (f .onread)
+
 -- 12: "`onread` without reading, `onwrite` without writing"
 unfoldable pub hasUnusableEffect : FieldType → Bool
-hasUnusableEffect f = (ltb 0 (f .onread) && not (isReadable f)) || (ltb 0 (f .onwrite) && not (isWritable f))
+hasUnusableEffect f = (hasReadEffect f && not (isReadable f)) || (ltb 0 (f .onwrite) && not (isWritable f))
 
 -- 13: "reset too wide"
 abbrev pub isWide : Given → ℕ → Bool
@@ -51,9 +55,14 @@ isReadWritePair a b = (eqb a (accessCode access.R) && eqb b (accessCode access.W
 unfoldable pub isOverlap : FieldAt → FieldAt → Bool
 isOverlap f g = (leb (f .low .0) (g .high .0) && leb (g .low .0) (f .high .0)) && not (isReadWritePair (f .values .sw) (g .values .sw))
 
--- 17: "a software-writable field lies within one access part"
+-- "a field that is writable or has any `onread` effect" (document 02, item 2): software changes it, by a write or by a read
+unfoldable pub isChangedByAccess : FieldType → Bool
+isChangedByAccess f = isWritable f || hasReadEffect f
+
+-- 17: such a field "must lie within one part". Source 000, clause 10.6.1, f: "Any field that is software-writable or clear on read shall not
+-- span multiple software accessible sub-words"; document 02: "`rset` is our addition"
 unfoldable pub spansParts : ℕ → FieldAt → Bool
-spansParts part f = isWritable (f .values) && not (eqb (f .low .0 / part) (f .high .0 / part))
+spansParts part f = isChangedByAccess (f .values) && not (eqb (f .low .0 / part) (f .high .0 / part))
 
 -- what a field of a register may be asked
 unfoldable pub breaks : Probe → FieldAt → Bool

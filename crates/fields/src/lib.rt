@@ -5,7 +5,7 @@ ghost use mathlib.Core.Bool.{_&&_, not};
 ghost use Prim.Native.Nat.{_<_, _^_};
 ghost use lib.Dec.{leb, ltb, eqb};
 ghost use Rattle.fields.specs.Codes.{accessCode, readCode, writeCode, modeCode, isWidth};
-ghost use Rattle.fields.specs.Fields.{standardRegister, isReadable, isWritable, hasUnusableEffect, isWide, isResetWide, isReadWritePair, isOverlap, spansParts, breaks};
+ghost use Rattle.fields.specs.Fields.{standardRegister, isReadable, isWritable, hasUnusableEffect, isWide, isResetWide, isReadWritePair, isOverlap, isChangedByAccess, spansParts, breaks};
 
 // `sw` and `hw`; `wr` is `rw`.
 pub enum AccessRight {
@@ -267,6 +267,16 @@ fn is_overlap(f: FieldAt, g: FieldAt) -> bool
     false
 }
 
+// Whether software changes a field, by a write or by a read.
+fn is_changed_by_access(field: FieldType) -> bool
+    ensures { λ r. ⌜ r ≡ isChangedByAccess field ⌝ }
+{
+    if is_writable(field) {
+        return true;
+    }
+    0 < field.onread
+}
+
 fn spans_parts(part: u64, field: FieldAt) -> bool
     ensures { λ r. ⌜ r ≡ spansParts part field ⌝ }
 {
@@ -274,7 +284,7 @@ fn spans_parts(part: u64, field: FieldAt) -> bool
         return false;
     }
     let values = field.values;
-    if is_writable(values) {
+    if is_changed_by_access(values) {
         return field.low.0 / part != field.high.0 / part;
     }
     false

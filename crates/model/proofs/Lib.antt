@@ -7,4 +7,5 @@ pub mod Whole
 pub mod Composed
 pub mod Retry
 pub mod Suiting
+pub mod Reached
 pub mod Joined

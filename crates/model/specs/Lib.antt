@@ -2,3 +2,4 @@ pub mod Model
 pub mod Lists
 pub mod Repeats
 pub mod Suited
+pub mod Reached

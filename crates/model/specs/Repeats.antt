@@ -22,7 +22,7 @@ abbrev pub invertedBy : FieldType → Bool → Bool
 invertedBy f true = eqb (f .onwrite) (writeCode onwrite.Wot)
 invertedBy f false = eqb (f .onwrite) (writeCode onwrite.Wzt)
 
--- a bit "that reading clears or sets"
+-- a bit "that reading clears or sets"; in lawful rows any `onread` effect is one of the two
 abbrev pub changedByReading : FieldType → Bool
 changedByReading v = eqb (v .onread) (readCode onread.Rclr) || eqb (v .onread) (readCode onread.Rset)
 

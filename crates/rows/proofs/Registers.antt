@@ -1,14 +1,15 @@
 -- Laws of register rows and whole tables: one for each way that the code goes.
-use mathlib.Core.Bool.{Bool, true, false, _||_, _&&_, not}
+use mathlib.Core.Bool.{Bool, true, false, _&&_, not}
 use mathlib.Core.Path.{_≡_, refl, sym, ap, _∙_}
 use mathlib.Core.List.{List}
 use Prim.Native.Nat.{ℕ, suc, _+_, _-_, _*_, _/_, _%_, _<_, _≤_}
 use native.Mathlib.Omega.{arith}
 use lib.Dec.{eqb, leb, ltb}
 use lib.ListN.{length}
-use borrow.Author.Tests.{eq-eqb, ne-eqb, lt-ltb, le-ltb, le-leb, lt-leb, leb-true, leb-false, eqb-true, not-true, not-false}
+use borrow.Author.Tests.{eq-eqb, ne-eqb, lt-ltb, le-ltb, le-leb, lt-leb, leb-true, leb-false, not-true, not-false}
 use Rattle.chars.proofs.Laws.{and-left, and-right}
 use Rattle.fields.specs.Codes.{isWidth}
+use Rattle.fields.proofs.Laws.{width-cases}
 use Rattle.basics.specs.Slices.{cellOf}
 use Rattle.basics.specs.Limits.{addressEnd, nestLimit, registerLimit, fieldLimit, registerRowWidth, fieldRowWidth, nameWidth, pathRowWidth}
 use Rattle.rows.specs.Rows.{Tables}
@@ -23,23 +24,7 @@ register-made t i p0 p1 p2 p3 p4 p5 = rw (p0, p1, p2, p3, p4, p5)
 
 -- a width is 8, 16, 32 or 64
 pub width-bounds : (n : ℕ) → isWidth n ≡ true → (8 ≤ n) × (n ≤ 64)
-unfolding isWidth
-width-bounds n e = by8 (eqb n 8) refl e
-  where
-    by64 : eqb n 64 ≡ true → (8 ≤ n) × (n ≤ 64)
-    by64 q = let z : n ≡ 64 = eqb-true n 64 q in (omega arith, omega arith)
-
-    by32 : (b : Bool) → eqb n 32 ≡ b → (b || eqb n 64) ≡ true → (8 ≤ n) × (n ≤ 64)
-    by32 true q f = let z : n ≡ 32 = eqb-true n 32 q in (omega arith, omega arith)
-    by32 false q f = by64 f
-
-    by16 : (b : Bool) → eqb n 16 ≡ b → (b || (eqb n 32 || eqb n 64)) ≡ true → (8 ≤ n) × (n ≤ 64)
-    by16 true q f = let z : n ≡ 16 = eqb-true n 16 q in (omega arith, omega arith)
-    by16 false q f = by32 (eqb n 32) refl f
-
-    by8 : (b : Bool) → eqb n 8 ≡ b → (b || (eqb n 16 || (eqb n 32 || eqb n 64))) ≡ true → (8 ≤ n) × (n ≤ 64)
-    by8 true q f = let z : n ≡ 8 = eqb-true n 8 q in (omega arith, omega arith)
-    by8 false q f = by16 (eqb n 16) refl f
+width-bounds = width-cases (λ n. (8 ≤ n) × (n ≤ 64)) (omega arith, omega arith) (omega arith, omega arith) (omega arith, omega arith) (omega arith, omega arith)
 
 pub width-parts : (n : ℕ) {r : Bool} → r ≡ isWidth n → not r ≡ false → 0 < n / 8
 width-parts n {r} e y = omega (arith, width-bounds n (sym e ∙ not-false r y) .0)

@@ -28,7 +28,7 @@ use Rattle.basics.specs.Judged.{Judged, fault, fine, onward, unless}
 use Rattle.properties.specs.Assigned.{assign, nearest, assigned}
 use Rattle.properties.specs.Properties.{judgeValue, judgeKnown, judgeProperty}
 use Rattle.components.specs.Components.{componentOf}
-use Rattle.fields.specs.Fields.{isReadable, isWritable, hasUnusableEffect, isResetWide, isOutside, isReadWritePair, isOverlap, spansParts, breaks}
+use Rattle.fields.specs.Fields.{isReadable, isWritable, hasUnusableEffect, isResetWide, isOutside, isReadWritePair, isOverlap, isChangedByAccess, spansParts, breaks}
 use Rattle.components.specs.Fields.{fieldAt}
 use Rattle.cells.specs.Definitions.{lookup}
 use Rattle.closing_rules.specs.Registers.{fieldsFrom, some, overlaps, registerFault, closingFault}
@@ -78,9 +78,14 @@ cases =
     case "addrmap m { reg { field { sw = na; } f; field { sw = r; } g[0:0]; } a; };" (refused 16 66) ∷
     case "addrmap m { reg { regwidth=64; accesswidth=32; field {} f[32:0]; } a; };" (refused 17 65) ∷
     case "addrmap m { reg { regwidth=64; accesswidth=32; field {} f[31:0]; } a; };" accepted ∷
+    case "addrmap m { reg { regwidth=64; accesswidth=32; field { sw=r; } f[32:31]; } a; };" accepted ∷
+    case "addrmap m { reg { regwidth=64; accesswidth=32; field { sw=r; rclr; } f[32:31]; } a; };" (refused 17 79) ∷
+    case "addrmap m { reg { regwidth=64; accesswidth=32; field { sw=r; rclr; } f[31:0]; } a; };" accepted ∷
+    case "addrmap m { default rset; reg { regwidth=64; accesswidth=32; field { sw=r; } f[32:31]; } a; };" (refused 17 87) ∷
+    case "addrmap m { default rclr; reg { regwidth=64; accesswidth=32; field { sw=r; rclr=false; } f[32:31]; } a; };" accepted ∷
     case "addrmap m { default sw = w; field t {}; reg { default rclr; t f; } a; };" accepted ∷
     []
 
 pub worked : map (λ c. answer (bytes (c .text)) (fileAt (bytes (c .text)))) cases ≡ map (λ c. c .due) cases
-unfolding cases isWithin isBlank isLineEnd isLetter isNameByte isNumberByte isHexDigit isSpacedDigit run every sameBytes chosen entry keywordOf propertyOf markOf digitValue nextValue valueFrom fitting radixOf plainDigits spacedDigits widthOf sizedNumber sizedAt hexPrefixed hexNumber numberOf blanks nextFrom closes closing nameWord nameToken numberToken stringToken markToken tokenFrom tokenAt andThen mapped isName kindOf isKind isDefault isProperty isMark isEnd closedBy nameAt resultOf partOf inRow operatorIn earlier given settled joined evaluated joinedFrom rowAt closedAt operandWith operandAt expressionAt numberAt arrayRestAt arrayAt suffixAt setSuffix withSuffix bareAt instanceAt partedAt listedAt valueAt settingAt propertyWordAt propertyAt headerRestAt headerAt startsInstances instancesFrom instancesAt instanceStatementAt statementAt tailAt elementAt elementsAt definitionWith definitionAt definitionsFrom fileAt isAllowed isWidth isPowerTo settingAs settingOf refusalIn ranged settledFault isSize isRange suffixRange isBarred instanceFault bytesOf sameName isAmong isReadable isWritable hasUnusableEffect some isResetWide isOutside isReadWritePair isOverlap overlaps spansParts onward unless lookup mayDefine mayHold isBadMap assigned judgeValue judgeKnown judgeProperty judgeInstances judgeUse declared judgeDefinition judgeElem judgeBody judgeFile judge assign nearest componentOf fieldAt breaks fieldsFrom registerFault closingFault judgeSetting closed
+unfolding cases isWithin isBlank isLineEnd isLetter isNameByte isNumberByte isHexDigit isSpacedDigit run every sameBytes chosen entry keywordOf propertyOf markOf digitValue nextValue valueFrom fitting radixOf plainDigits spacedDigits widthOf sizedNumber sizedAt hexPrefixed hexNumber numberOf blanks nextFrom closes closing nameWord nameToken numberToken stringToken markToken tokenFrom tokenAt andThen mapped isName kindOf isKind isDefault isProperty isMark isEnd closedBy nameAt resultOf partOf inRow operatorIn earlier given settled joined evaluated joinedFrom rowAt closedAt operandWith operandAt expressionAt numberAt arrayRestAt arrayAt suffixAt setSuffix withSuffix bareAt instanceAt partedAt listedAt valueAt settingAt propertyWordAt propertyAt headerRestAt headerAt startsInstances instancesFrom instancesAt instanceStatementAt statementAt tailAt elementAt elementsAt definitionWith definitionAt definitionsFrom fileAt isAllowed isWidth isPowerTo settingAs settingOf refusalIn ranged settledFault isSize isRange suffixRange isBarred instanceFault bytesOf sameName isAmong isReadable isWritable hasUnusableEffect some isResetWide isOutside isReadWritePair isOverlap overlaps isChangedByAccess spansParts onward unless lookup mayDefine mayHold isBadMap assigned judgeValue judgeKnown judgeProperty judgeInstances judgeUse declared judgeDefinition judgeElem judgeBody judgeFile judge assign nearest componentOf fieldAt breaks fieldsFrom registerFault closingFault judgeSetting closed
 worked = refl

@@ -1,4 +1,5 @@
-// Refusals 22 and 24 of compiling and listing: tables and outputs that are too short by one or just fit, and rows that are not lawful.
+// Refusals 22 and 24 of compiling and listing: tables and outputs that are too short by one or just fit, rows that are not lawful, and
+// lawful rows that no text gives.
 use compile::Compiled;
 use listing::Listed;
 
@@ -60,22 +61,34 @@ fn are_kept_bytes(bytes: &[u8]) -> bool {
     true
 }
 
-// Compiles a text of one register with one field, a row of each table: a label, what is answered, and which tables were written.
+// Compiles a text: a label, what is answered, and which tables were written.
 fn show_compiled(
     label: &[u8],
+    text: &[u8],
     registers: &mut [u64],
     paths: &mut [u8],
     fields: &mut [u64],
     labels: &mut [u8],
 ) {
     case_io::put(label);
-    let text = b"addrmap m { reg { field {} f; } a; };";
     put_compiled(compile::compile(text, registers, paths, fields, labels));
     put_kept(b" registers", are_kept_numbers(registers));
     put_kept(b" paths", are_kept_bytes(paths));
     put_kept(b" fields", are_kept_numbers(fields));
     put_kept(b" labels", are_kept_bytes(labels));
     case_io::put(b"\n");
+}
+
+// The same of a text of one register with one field, a row of each table.
+fn show_one(
+    label: &[u8],
+    registers: &mut [u64],
+    paths: &mut [u8],
+    fields: &mut [u64],
+    labels: &mut [u8],
+) {
+    let text = b"addrmap m { reg { field {} f; } a; };";
+    show_compiled(label, text, registers, paths, fields, labels);
 }
 
 // Lists the rows of the tables to an output: a label, what is answered, and whether the output was written.
@@ -98,7 +111,7 @@ fn registers_short() {
     let mut paths = [BYTE; 288];
     let mut fields = [NUMBER; 8];
     let mut labels = [BYTE; 32];
-    show_compiled(
+    show_one(
         b"registers short by one:",
         &mut registers,
         &mut paths,
@@ -112,7 +125,7 @@ fn paths_short() {
     let mut paths = [BYTE; 287];
     let mut fields = [NUMBER; 8];
     let mut labels = [BYTE; 32];
-    show_compiled(
+    show_one(
         b"paths short by one:",
         &mut registers,
         &mut paths,
@@ -126,7 +139,7 @@ fn fields_short() {
     let mut paths = [BYTE; 288];
     let mut fields = [NUMBER; 7];
     let mut labels = [BYTE; 32];
-    show_compiled(
+    show_one(
         b"fields short by one:",
         &mut registers,
         &mut paths,
@@ -140,7 +153,7 @@ fn labels_short() {
     let mut paths = [BYTE; 288];
     let mut fields = [NUMBER; 8];
     let mut labels = [BYTE; 31];
-    show_compiled(
+    show_one(
         b"labels short by one:",
         &mut registers,
         &mut paths,
@@ -157,7 +170,7 @@ fn just_fit() {
     let mut labels = [BYTE; 32];
     let mut short = [BYTE; 104];
     let mut output = [BYTE; 105];
-    show_compiled(
+    show_one(
         b"all just fit:",
         &mut registers,
         &mut paths,
@@ -199,7 +212,7 @@ fn not_lawful() {
     let mut labels = [BYTE; 32];
     let mut short = [BYTE; 104];
     let mut output = [BYTE; 105];
-    show_compiled(
+    show_one(
         b"rows of the text:",
         &mut registers,
         &mut paths,
@@ -234,6 +247,41 @@ fn not_lawful() {
     );
 }
 
+// A count across two parts that clears when it is read: no text gives it (17), but its rows are lawful and have a listing.
+fn count_across_parts() {
+    let mut registers = [NUMBER; 14];
+    let mut paths = [BYTE; 288];
+    let mut fields = [NUMBER; 8];
+    let mut labels = [BYTE; 32];
+    let mut output = [BYTE; 105];
+    show_compiled(
+        b"a count across parts that clears:",
+        b"addrmap m { reg { regwidth = 64; accesswidth = 32; field { sw = r; rclr; } f[33]; } a; };",
+        &mut registers,
+        &mut paths,
+        &mut fields,
+        &mut labels,
+    );
+    show_compiled(
+        b"that does not clear:",
+        b"addrmap m { reg { regwidth = 64; accesswidth = 32; field { sw = r; } f[33]; } a; };",
+        &mut registers,
+        &mut paths,
+        &mut fields,
+        &mut labels,
+    );
+    fields[4] = 1;
+    show_listed(
+        b"that clears, by its row:",
+        &registers,
+        &paths,
+        &fields,
+        &labels,
+        &mut output,
+    );
+    case_io::put(&output);
+}
+
 fn main() {
     registers_short();
     paths_short();
@@ -242,4 +290,5 @@ fn main() {
     just_fit();
     no_rows();
     not_lawful();
+    count_across_parts();
 }
