@@ -52,7 +52,7 @@ pub record Within (width : ℕ) (f : FieldAt) : Type 0 where
   pub narrow : isResetWide f ≡ false
   pub usable : hasUnusableEffect (f .values) ≡ false
 
-sound-within : (width : ℕ) (f : FieldAt) → isSoundField width f ≡ true → Within width f
+pub sound-within : (width : ℕ) (f : FieldAt) → isSoundField width f ≡ true → Within width f
 unfolding isSoundField isOutside
 sound-within width f e =
     let inside = and-right (leb (f .low .0) (f .high .0)) _ e in

@@ -39,7 +39,8 @@ use Rattle.basics.specs.All.{All, all-none, all-more}
 use Rattle.row_laws.specs.Sound.{SoundField}
 use Rattle.compile_laws.specs.Named.{ChildNamed}
 use Rattle.row_writer.specs.Entries.{bytesIn, withField, rowFields}
-use Rattle.compile_laws.proofs.Lists.{not-of, none-test}
+use Rattle.basics.proofs.All.{all-both, all-map}
+use Rattle.compile_laws.proofs.Lists.{all-first, all-rest, not-of, none-test}
 
 -- the ranges of a field's values
 field-ranges : {f : FieldType} → ValuesFit (component.Field f) → (f .sw ≤ 3) × ((f .hw ≤ 3) × ((f .onread ≤ 2) × (f .onwrite ≤ 8)))
@@ -107,46 +108,46 @@ rows-keep text table p next (c ∷ cs) e =
     let above : BitPlace = bitAbove q next in
     child-keeps p (fieldsFrom table above cs) (rowFields text table above cs) (bytesIn text (c .instance .name)) q e (λ r. rows-keep text table p above cs r)
 
--- an instance in a register
-record Keeps (width : ℕ) (fs : List FieldAt) : Type 0 where
-  pub narrow : some Wide fs ≡ false
-  pub inside : some (Outside width) fs ≡ false
+-- 13 and 15 of a field row
+record Keeps (width : ℕ) (f : Field) : Type 0 where
+  narrow : Unbroken Wide f
+  inside : Unbroken (Outside width) f
 
-field-sound : (text : List ℕ) (width : ℕ) (f : FieldType) (next : BitPlace) (c : Child) (table : List Definition) (cs : List Child) (rest : List FieldAt)
+-- an instance in a register
+field-sound : (text : List ℕ) (width : ℕ) (f : FieldType) (next : BitPlace) (c : Child) (table : List Definition) (cs : List Child)
     → ValuesFit (component.Field f) → closingFault table (component.Field f) cs ≡ 0 → instanceFault kind.Field (c .instance) ≡ None → ChildNamed text c
-    → Keeps width (fieldAt next (c .instance) f ∷ rest) → SoundField width (record { name = bytesIn text (c .instance .name); at = fieldAt next (c .instance) f })
+    → Keeps width (record { name = bytesIn text (c .instance .name); at = fieldAt next (c .instance) f })
+    → SoundField width (record { name = bytesIn text (c .instance .name); at = fieldAt next (c .instance) f })
 unfolding breaks
-field-sound text width f next c table cs rest h e s n k =
+field-sound text width f next c table cs h e s n k =
     let g : FieldAt = fieldAt next (c .instance) f in
     record {
       name = n;
       ranged = values-ranged next (c .instance) f h;
-      sound = field-holds width g (bits-rise next (c .instance) f s) (none-first (Outside width) g rest (k .inside)) (effect-usable next (c .instance) f table cs e) (none-first Wide g rest (k .narrow));
+      sound = field-holds width g (bits-rise next (c .instance) f s) (k .inside) (effect-usable next (c .instance) f table cs e) (k .narrow);
     }
 
-child-sound : (text : List ℕ) (width : ℕ) (d : Component) (next : BitPlace) (c : Child) (table : List Definition) (cs : List Child) (rest : List FieldAt) (rows : List Field)
+child-sound : (text : List ℕ) (width : ℕ) (d : Component) (next : BitPlace) (c : Child) (table : List Definition) (cs : List Child) (rows : List Field)
     → mayHold (Inside kind.Reg) (kindOf d) ≡ true → ValuesFit d → closingFault table d cs ≡ 0 → instanceFault (kindOf d) (c .instance) ≡ None → ChildNamed text c
-    → Keeps width (withPlaced (placement d next (c .instance)) rest) → (Keeps width rest → All (SoundField width) rows)
+    → All (Keeps width) (withField (bytesIn text (c .instance .name)) (placement d next (c .instance)) rows) → (All (Keeps width) rows → All (SoundField width) rows)
     → All (SoundField width) (withField (bytesIn text (c .instance .name)) (placement d next (c .instance)) rows)
 unfolding mayHold
-child-sound text width (component.Field f) next c table cs rest rows m h e s n k later =
-    let g : FieldAt = fieldAt next (c .instance) f in
-    all-more (field-sound text width f next c table cs rest h e s n k)
-    (later (record { narrow = none-later Wide g rest (k .narrow); inside = none-later (Outside width) g rest (k .inside) }))
-child-sound text width (component.Register r) next c table cs rest rows m h e s n k later = absurd (let z : _≡_ {A = ℕ} 0 1 = cc in omega arith)
-child-sound text width (component.Regfile a) next c table cs rest rows m h e s n k later = absurd (let z : _≡_ {A = ℕ} 0 1 = cc in omega arith)
-child-sound text width (component.Addrmap a b) next c table cs rest rows m h e s n k later = absurd (let z : _≡_ {A = ℕ} 0 1 = cc in omega arith)
+child-sound text width (component.Field f) next c table cs rows m h e s n k later =
+    all-more (field-sound text width f next c table cs h e s n (all-first k)) (later (all-rest k))
+child-sound text width (component.Register r) next c table cs rows m h e s n k later = absurd (let z : _≡_ {A = ℕ} 0 1 = cc in omega arith)
+child-sound text width (component.Regfile a) next c table cs rows m h e s n k later = absurd (let z : _≡_ {A = ℕ} 0 1 = cc in omega arith)
+child-sound text width (component.Addrmap a b) next c table cs rows m h e s n k later = absurd (let z : _≡_ {A = ℕ} 0 1 = cc in omega arith)
 
 -- the fields of a register behind others
 rows-sound : (text : List ℕ) (before : List Definition) (width : ℕ) (h : Component) (next : BitPlace) {cs : List Child} → Sensible before → kindOf h ≡ kind.Reg
-    → ChildrenFit before h cs → All (ChildNamed text) cs → Keeps width (fieldsFrom before next cs) → All (SoundField width) (rowFields text before next cs)
-unfolding fieldsFrom rowFields
+    → ChildrenFit before h cs → All (ChildNamed text) cs → All (Keeps width) (rowFields text before next cs) → All (SoundField width) (rowFields text before next cs)
+unfolding rowFields
 rows-sound text before width h next s q children-none all-none k = all-none
 rows-sound text before width h next s q (children-more {c = c} {cs = cs} x xs) (all-more n ns) k =
     let d : Definition = definitionOf before (c .type) in
     let f : RowFits 0 before (c .type) = row-fits 0 s (c .type) (x .before) in
     let above : BitPlace = bitAbove (placement (d .component) next (c .instance)) next in
-    child-sound text width (d .component) next c (f .before) (d .instances) (fieldsFrom before above cs) (rowFields text before above cs)
+    child-sound text width (d .component) next c (f .before) (d .instances) (rowFields text before above cs)
     (rw q at (x .held)) (f .fits .values) (f .fits .sound) (x .sound) n k (λ r. rows-sound text before width h above s q xs ns r)
 
 -- the rows are the same in a later table
@@ -165,4 +166,6 @@ rows-same text before table h next same (children-more {c = c} {cs = cs} x xs) =
 pub fields-sound : (text : List ℕ) (before : List Definition) (width : ℕ) (h : Component) (next : BitPlace) {cs : List Child} → Sensible before → kindOf h ≡ kind.Reg
     → ChildrenFit before h cs → All (ChildNamed text) cs → some Wide (fieldsFrom before next cs) ≡ false → some (Outside width) (fieldsFrom before next cs) ≡ false
     → All (SoundField width) (rowFields text before next cs)
-fields-sound text before width h next s q x n a b = rows-sound text before width h next s q x n (record { narrow = a; inside = b })
+fields-sound text before width h next {cs = cs} s q x n a b =
+    rows-sound text before width h next s q x n
+    (all-map (λ f p. record { narrow = p .0; inside = p .1 }) (all-both (rows-keep text before Wide next cs a) (rows-keep text before (Outside width) next cs b)))

@@ -1,55 +1,34 @@
 -- Half a count (document 02, item 2): no access of an accepted text's map has a part only of a field that is writable or has an effect on
 -- reading.
 use mathlib.Core.Path.{_≡_, sym, subst}
-use mathlib.Core.Bool.{true, not}
 use mathlib.Core.List.{List}
-use Prim.Native.Nat.{ℕ, suc, _+_, _<_, _≤_}
-use lib.Dec.{leb}
+use Prim.Native.Nat.{ℕ, suc, _+_}
 use lib.ListN.{length}
-use borrow.Author.Tests.{leb-true, leb-false, not-true}
 use Rattle.basics.specs.All.{All, all-none, all-more}
 use Rattle.basics.specs.Judged.{fine}
 use Rattle.basics.proofs.All.{all-append, all-both}
-use Rattle.chars.proofs.Laws.{and-left, and-right}
-use Rattle.fields.specs.Fields.{isOutside}
-use Rattle.fields.specs.declared.FieldAt.{FieldAt}
 use Rattle.rows.specs.Rows.{Field, Entry, Map, Tables, tablesOf}
-use Rattle.rows.specs.Lawful.{isSoundField}
 use Rattle.row_laws.specs.Sound.{SoundField, SoundEntry}
 use Rattle.compile.specs.declared.Compiled.the-variants.{Accepted}
 use Rattle.compile.specs.Compiled.{compiled, answered, lentAfter}
 use Rattle.compile_laws.specs.Parts.{FieldWithin, WithinParts}
 use Rattle.compile_laws.proofs.Lawful.{accepted-sound, accepted-within}
+use Rattle.model.specs.declared.View.{View}
 use Rattle.model.specs.Reached.{NeverHalved}
 use Rattle.model.proofs.Reached.{never-halved}
 use Rattle.access.specs.Stored.{storedIn, storedAmong, storedFields}
+use Rattle.access.proofs.Facts.{Within, sound-within}
 use Rattle.demands.specs.Demands.{RowsOf, firstRows}
 use Rattle.demands.proofs.Accepted.{accepted-stored, compiled-rows}
-
--- a field's bits in its register
-module _ (width : ℕ) (f : FieldAt) (e : isSoundField width f ≡ true) where
-  bits-rise : f .low .0 ≤ f .high .0
-  unfolding isSoundField
-  bits-rise = leb-true (f .low .0) (f .high .0) (and-left (leb (f .low .0) (f .high .0)) _ e)
-
-  bits-inside : f .high .0 < width
-  unfolding isSoundField isOutside
-  bits-inside = leb-false width (f .high .0) (not-true (leb width (f .high .0)) (and-left (not (leb width (f .high .0))) _ (and-right (leb (f .low .0) (f .high .0)) _ e)))
 
 -- the views of a register whose fields keep 17
 stored-whole : (e : Entry) (n : ℕ) {fs : List Field} → SoundEntry e → All (SoundField (e .register .width)) fs → All (FieldWithin (e .register)) fs → All NeverHalved (storedIn e n fs)
 unfolding storedIn
 stored-whole e n s all-none all-none = all-none
 stored-whole e n s (all-more {x = f} p a) (all-more q b) =
-    all-more
-    (never-halved (record { base = e .address; register = e .register; field = f .at; index = n })
-    (record {
-      width = s .width;
-      access = s .access;
-      bits = bits-rise (e .register .width) (f .at) (p .sound);
-      inside = bits-inside (e .register .width) (f .at) (p .sound);
-    }) .0 q)
-    (stored-whole e (suc n) s a b)
+    let w : Within (e .register .width) (f .at) = sound-within (e .register .width) (f .at) (p .sound) in
+    let c : View = record { base = e .address; register = e .register; field = f .at; index = n } in
+    all-more (never-halved c (record { width = s .width; access = s .access; bits = w .order; inside = w .top }) .0 q) (stored-whole e (suc n) s a b)
 
 among-whole : (n : ℕ) {es : List Entry} → All (λ (e : Entry). SoundEntry e × WithinParts e) es → All NeverHalved (storedAmong n es)
 unfolding storedAmong

@@ -1,6 +1,7 @@
 // Refusals 22 and 24 of compiling and listing: tables and outputs that are too short by one or just fit, rows that are not lawful, and
 // lawful rows that no text gives.
 use compile::Compiled;
+use fields::ReadEffect;
 use listing::Listed;
 
 // What stands in what is lent before a call.
@@ -270,7 +271,7 @@ fn count_across_parts() {
         &mut fields,
         &mut labels,
     );
-    fields[4] = 1;
+    fields[4] = fields::read_code(ReadEffect::Rclr);
     show_listed(
         b"that clears, by its row:",
         &registers,
