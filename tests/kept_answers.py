@@ -1,7 +1,7 @@
 #!/usr/bin/env python3
 """Which texts keep the answer they had before the requests, on the conformance packs: all but those that a request speaks of.
 
-    python3 tests/kept_answers.py tests/packs/base.pack crates/vector_cases/data/level-02.pack      (of the base; with requests 1 and 2)
+    python3 tests/kept_answers.py tests/packs/base.pack crates/vector_cases/data/level-03.pack      (of the base; with requests 1 to 3)
 
 Goes through the different texts of the first pack. Request 1 speaks of those in which the second lexer, tests/word_cases.py, finds one of
 the new marks up to the end or the first bad word, behind which nothing is judged ("Texts without operators or parentheses keep the answer

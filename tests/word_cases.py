@@ -9,6 +9,7 @@ tokens as ` KIND[=VALUE]@START-END`, ` tokens=N` and ` accepted` or ` refused=N 
 """
 import pathlib
 import re
+import string
 import struct
 import sys
 from itertools import product
@@ -118,6 +119,7 @@ def answer(text):
 # --- the cases ---
 
 EVERY_BYTE = [bytes([byte]) for byte in range(256)]
+NAME_BYTES = (string.ascii_letters + string.digits + "_").encode()
 
 
 def classroom():
@@ -251,7 +253,26 @@ def long_texts():
     return cases + [b"#" + b" " * TEXT_LIMIT]
 
 
-GROUPS = [classroom, bytes_after, keyword_words, names, numbers, strings, comments, marks, order, long_texts]
+def near_keywords():
+    """Near misses of each keyword: words of its length and first byte with one other byte changed, and its other bytes behind each first
+    byte of a keyword of its length. The words of one text are all shown; those that are keywords, as `wzc` beside `wzs`, stand alone."""
+    cases = []
+    for word in KEYWORDS:
+        near = [[word[:i] + bytes([byte]) + word[i + 1:] for byte in other_name_bytes(word[i])] for i in range(1, len(word))]
+        near.append([first + word[1:] for first in sorted({other[:1] for other in KEYWORDS if len(other) == len(word)})])
+        for words in near:
+            cases.append(b" ".join(other for other in words if other not in KEYWORDS))
+            cases += [other for other in words if other in KEYWORDS and other != word]
+    return [case for case in cases if case]
+
+
+def other_name_bytes(byte):
+    """Some other bytes that a name may have: the two beside this one, the other case, and some far away."""
+    others = {byte - 1, byte + 1, byte ^ 32, *b"aezAZ_09"} - {byte}
+    return sorted(others & set(NAME_BYTES))
+
+
+GROUPS = [classroom, bytes_after, keyword_words, names, numbers, strings, comments, marks, order, long_texts, near_keywords]
 
 
 def write_cases(program, groups, answer):

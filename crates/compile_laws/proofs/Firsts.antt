@@ -9,10 +9,11 @@ use Rattle.lex.specs.declared.Verdict.the-variants.{Accepted}
 use Rattle.parts.specs.Reading.{ok}
 use Rattle.syntax.specs.Tree.{Body}
 use Rattle.syntax.specs.Grammar.{fileAt}
+use Rattle.basics.specs.All.{In}
 use Rattle.basics.specs.Judged.{Judged, fault, fine, onward}
 use Rattle.rules.specs.Judge.{Meaning}
 use Rattle.rules.specs.Rules.{ruled}
-use Rattle.order_laws.specs.Order.{Check, checksOf, In, Foremost}
+use Rattle.order_laws.specs.Order.{Check, checksOf, Foremost}
 use Rattle.order_laws.proofs.Smallest.{foremost, none}
 use Rattle.rows.specs.Rows.{Map}
 use Rattle.compile.specs.Compiled.{mapped, compiled}

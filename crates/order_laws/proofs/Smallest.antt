@@ -5,6 +5,7 @@ use mathlib.Core.List.{List, [], _∷_}
 use mathlib.Core.Logic.{_⊎_, inl, inr}
 use Prim.Native.Nat.{ℕ, _<_, _≤_}
 use native.Mathlib.Omega.{arith}
+use Rattle.basics.specs.All.{In, in-here, in-later}
 use Rattle.basics.specs.Choice.{if_then_else_}
 use Rattle.lex.specs.Words.{wordsVerdict}
 use Rattle.lex.specs.declared.Verdict.{Verdict}
@@ -16,7 +17,7 @@ use Rattle.syntax.specs.Grammar.{fileAt}
 use Rattle.basics.specs.Judged.{Judged, fault, fine}
 use Rattle.rules.specs.Judge.{Meaning, judge}
 use Rattle.rules.specs.Rules.{afterWords, afterSentences, ruled}
-use Rattle.order_laws.specs.Order.{Check, check, checksOf, firstFailing, faultOf, In, in-here, in-later, Before, Ordered, ordered-on, Foremost}
+use Rattle.order_laws.specs.Order.{Check, check, checksOf, firstFailing, faultOf, Before, Ordered, ordered-on, Foremost}
 use Rattle.order_laws.proofs.First.{judge-first}
 use Rattle.order_laws.proofs.Sorted.{checks-ordered}
 
@@ -29,12 +30,12 @@ unlike e = absurd (let z : _≡_ {A = ℕ} 0 1 = cc in omega arith)
 -- the first check that fails, or none
 first-none : {cs : List Check} {c : Check} → firstFailing cs ≡ finding.None → In c cs → c .fails ≡ false
 unfolding firstFailing
-first-none {c = c} e (in-here {cs = cs}) = by (c .fails) e
+first-none {c = c} e (in-here {xs = cs}) = by (c .fails) e
   where
     by : (b : Bool) → (if b then finding.Refused (c .number) (c .place) else firstFailing cs) ≡ finding.None → b ≡ false
     by true f = apart (sym f)
     by false f = refl
-first-none e (in-later {d = d} {cs = cs} i) = first-none (by (d .fails) e) i
+first-none e (in-later {y = d} {xs = cs} i) = first-none (by (d .fails) e) i
   where
     by : (b : Bool) → (if b then finding.Refused (d .number) (d .place) else firstFailing cs) ≡ finding.None → firstFailing cs ≡ finding.None
     by true f = apart (sym f)

@@ -8,6 +8,7 @@ use native.Mathlib.Omega.{arith}
 use lib.Dec.{ltb}
 use lib.ListN.{length, drop}
 use borrow.Author.Tests.{ltb-true, ltb-false}
+use Rattle.basics.specs.All.{In, in-here, in-later}
 use Rattle.basics.specs.Choice.{if_then_else_}
 use Rattle.chars.proofs.Laws.{either, and-right}
 use Rattle.lex.specs.Blank.{nextFrom}
@@ -73,7 +74,7 @@ use Rattle.identifiers.specs.Names.{bytesOf}
 use Rattle.scopes.specs.declared.Enclosing.{Enclosing}
 use Rattle.scopes.specs.declared.Enclosing.the-variants.{Root, Inside}
 use Rattle.rules.specs.Judge.{State, opening}
-use Rattle.order_laws.specs.Order.{Check, check, operatorChecks, rangeOperators, arrayChecks, suffixChecks, instanceChecks, listChecks, walkUse, walkProperty, walkSetting, closeChecks, walkClose, headerChecks, walkDefinition, walkElem, walkBody, fileChecks, checksOf, In, in-here, in-later, Ordered, ordered-none, ordered-on}
+use Rattle.order_laws.specs.Order.{Check, check, operatorChecks, rangeOperators, arrayChecks, suffixChecks, instanceChecks, listChecks, walkUse, walkProperty, walkSetting, closeChecks, walkClose, headerChecks, walkDefinition, walkElem, walkBody, fileChecks, checksOf, Ordered, ordered-none, ordered-on}
 
 -- Checks that rise from `low` on and stay below `high`, by place and then by number: no number reaches 32, so one natural number ranks both.
 pub data Rises : ℕ → List Check → ℕ → Type 0 where

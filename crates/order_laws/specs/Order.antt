@@ -7,6 +7,7 @@ use mathlib.Core.Logic.{_⊎_}
 use mathlib.Core.Path.{_≡_}
 use Prim.Native.Nat.{ℕ, _+_, _<_, _≤_}
 use lib.Dec.{leb, ltb}
+use Rattle.basics.specs.All.{In}
 use Rattle.basics.specs.Choice.{if_then_else_}
 use Rattle.vocabulary.specs.Vocabulary.{propertyOf}
 use Rattle.vocabulary.specs.declared.Property.{Property}
@@ -226,11 +227,6 @@ firstFailing (c ∷ cs) = if c .fails then Refused (c .number) (c .place) else f
 abbrev pub faultOf : {A : Type 0} → Judged A → Fault
 faultOf (fault n p) = Refused n p
 faultOf (fine a) = None
-
--- a check of a list
-pub data In (c : Check) : List Check → Type 0 where
-  in-here : {cs : List Check} → In c (c ∷ cs)
-  in-later : {d : Check} {cs : List Check} → In c cs → In c (d ∷ cs)
 
 -- "the smallest place, then the smallest number"
 abbrev pub Before : Check → Check → Type 0

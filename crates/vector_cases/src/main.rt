@@ -1,4 +1,4 @@
-// Answers each text of the conformance pack data/level-02.pack (for each case the u32 lengths of the text and of the answer, then both) as
+// Answers each text of the conformance pack data/level-03.pack (for each case the u32 lengths of the text and of the answer, then both) as
 // the program does. Writes a line for each text on which they differ, then how many there are and on how many they agree.
 use case_io::MOST_CASES;
 
@@ -48,7 +48,7 @@ fn main() {
     let mut answer_space = io::large_buffer();
     let text_room: &mut [u8] = &mut text_space;
     let answer_room: &mut [u8] = &mut answer_space;
-    let pack = os::open_read(b"level-02.pack");
+    let pack = os::open_read(b"level-03.pack");
     let mut cases = 0;
     let mut agreed = 0;
     while cases < MOST_CASES {

@@ -1,8 +1,9 @@
 // The keywords of document 004, the properties that the course takes and the marks. Each keyword and property is a fixed byte string
-// compared with the word; a mark is known by its one or two bytes.
+// compared with the word, a keyword only with words of its length and first byte; a mark is known by its one or two bytes.
 use chars::same;
 ghost use mathlib.Core.Path.{_≡_};
-ghost use Rattle.vocabulary.specs.Vocabulary.{chosen, entry, spelling, itself, leave, keywordOf, structureKeywords, propertyKeywords, accessKeywords, effectKeywords, addressingKeywords, leftOut1, leftOut2, leftOut3, leftOut4, leftOut5, leftOut6, leftOutKeywords, propertyName, propertyOf, accessProperties, effectProperties, otherProperties, markBytes, markOf};
+ghost use Rattle.vocabulary.specs.Vocabulary.{chosen, entry, keywordOf, propertyName, propertyOf, accessProperties, effectProperties, otherProperties, markBytes, markOf};
+ghost use Rattle.vocabulary.specs.Candidates.{keywordAmong, candidates};
 ghost use lib.ListN.{length};
 ghost use mathlib.Core.List.{[], _∷_};
 
@@ -132,141 +133,200 @@ fn choose_property(
     other
 }
 
-// Each function below tests the words of one list, and answers `other` for a word that is none of them.
-fn structure_keyword(word: &[u8], other: Lookup) -> Lookup
-    ensures { λ r. ⌜ r ≡ entry spelling Lookup.Kept other structureKeywords (now (word .entry)) ⌝ }
+// Whether a word is the kept keyword with the bytes of `text`.
+fn kept(word: &[u8], text: &[u8], keyword: Keyword) -> Lookup
+    ensures { λ r. ⌜ r ≡ chosen (now (word .entry)) (now (text .entry)) (Lookup.Kept keyword) Lookup.NotKeyword ⌝ }
 {
-    let from_default = choose(word, b"default", Lookup::Kept(Keyword::Default), other);
-    let from_field = choose(word, b"field", Lookup::Kept(Keyword::Field), from_default);
-    let from_reg = choose(word, b"reg", Lookup::Kept(Keyword::Reg), from_field);
-    let from_regfile = choose(word, b"regfile", Lookup::Kept(Keyword::Regfile), from_reg);
-    choose(
-        word,
-        b"addrmap",
-        Lookup::Kept(Keyword::Addrmap),
-        from_regfile,
-    )
+    choose(word, text, Lookup::Kept(keyword), Lookup::NotKeyword)
 }
 
-fn property_keyword(word: &[u8], other: Lookup) -> Lookup
-    ensures { λ r. ⌜ r ≡ entry spelling Lookup.Kept other propertyKeywords (now (word .entry)) ⌝ }
+// Whether a word is the keyword with the bytes of `text`, which is left out.
+fn left_out(word: &[u8], text: &[u8]) -> Lookup
+    ensures { λ r. ⌜ r ≡ chosen (now (word .entry)) (now (text .entry)) Lookup.LeftOut Lookup.NotKeyword ⌝ }
 {
-    let from_woset = choose(word, b"woset", Lookup::Kept(Keyword::Woset), other);
-    let from_woclr = choose(word, b"woclr", Lookup::Kept(Keyword::Woclr), from_woset);
-    let from_rset = choose(word, b"rset", Lookup::Kept(Keyword::Rset), from_woclr);
-    let from_rclr = choose(word, b"rclr", Lookup::Kept(Keyword::Rclr), from_rset);
-    let from_hw = choose(word, b"hw", Lookup::Kept(Keyword::Hw), from_rclr);
-    choose(word, b"sw", Lookup::Kept(Keyword::Sw), from_hw)
+    choose(word, text, Lookup::LeftOut, Lookup::NotKeyword)
 }
 
-fn access_keyword(word: &[u8], other: Lookup) -> Lookup
-    ensures { λ r. ⌜ r ≡ entry spelling Lookup.Kept other accessKeywords (now (word .entry)) ⌝ }
+// Each function below has the keywords of one length, and compares a word with those of them that begin with `first`.
+fn one_byte_keyword(word: &[u8], first: u8) -> Lookup
+    ensures { λ r. ⌜ r ≡ keywordAmong (candidates 1 first) (now (word .entry)) ⌝ }
 {
-    let from_w = choose(word, b"w", Lookup::Kept(Keyword::W), other);
-    let from_r = choose(word, b"r", Lookup::Kept(Keyword::R), from_w);
-    let from_wr = choose(word, b"wr", Lookup::Kept(Keyword::Wr), from_r);
-    let from_rw = choose(word, b"rw", Lookup::Kept(Keyword::Rw), from_wr);
-    let from_na = choose(word, b"na", Lookup::Kept(Keyword::Na), from_rw);
-    let from_false = choose(word, b"false", Lookup::Kept(Keyword::False), from_na);
-    choose(word, b"true", Lookup::Kept(Keyword::True), from_false)
+    match first {
+        b'r' => kept(word, b"r", Keyword::R),
+        b'w' => kept(word, b"w", Keyword::W),
+        _ => Lookup::NotKeyword,
+    }
 }
 
-fn effect_keyword(word: &[u8], other: Lookup) -> Lookup
-    ensures { λ r. ⌜ r ≡ entry spelling Lookup.Kept other effectKeywords (now (word .entry)) ⌝ }
+fn two_byte_keyword(word: &[u8], first: u8) -> Lookup
+    ensures { λ r. ⌜ r ≡ keywordAmong (candidates 2 first) (now (word .entry)) ⌝ }
 {
-    let from_wset = choose(word, b"wset", Lookup::Kept(Keyword::Wset), other);
-    let from_wclr = choose(word, b"wclr", Lookup::Kept(Keyword::Wclr), from_wset);
-    let from_wzt = choose(word, b"wzt", Lookup::Kept(Keyword::Wzt), from_wclr);
-    let from_wzc = choose(word, b"wzc", Lookup::Kept(Keyword::Wzc), from_wzt);
-    let from_wzs = choose(word, b"wzs", Lookup::Kept(Keyword::Wzs), from_wzc);
-    choose(word, b"wot", Lookup::Kept(Keyword::Wot), from_wzs)
+    match first {
+        b'h' => kept(word, b"hw", Keyword::Hw),
+        b'n' => kept(word, b"na", Keyword::Na),
+        b'r' => kept(word, b"rw", Keyword::Rw),
+        b's' => kept(word, b"sw", Keyword::Sw),
+        b'w' => {
+            let from_w1 = left_out(word, b"w1");
+            choose(word, b"wr", Lookup::Kept(Keyword::Wr), from_w1)
+        }
+        _ => Lookup::NotKeyword,
+    }
 }
 
-fn addressing_keyword(word: &[u8], other: Lookup) -> Lookup
-    ensures { λ r. ⌜ r ≡ entry spelling Lookup.Kept other addressingKeywords (now (word .entry)) ⌝ }
+fn three_byte_keyword(word: &[u8], first: u8) -> Lookup
+    ensures { λ r. ⌜ r ≡ keywordAmong (candidates 3 first) (now (word .entry)) ⌝ }
 {
-    let from_fullalign = choose(word, b"fullalign", Lookup::Kept(Keyword::Fullalign), other);
-    let from_regalign = choose(
-        word,
-        b"regalign",
-        Lookup::Kept(Keyword::Regalign),
-        from_fullalign,
-    );
-    choose(
-        word,
-        b"compact",
-        Lookup::Kept(Keyword::Compact),
-        from_regalign,
-    )
+    match first {
+        b'a' => left_out(word, b"all"),
+        b'b' => left_out(word, b"bit"),
+        b'm' => left_out(word, b"mem"),
+        b'r' => {
+            let from_ref = left_out(word, b"ref");
+            let from_rw1 = choose(word, b"rw1", Lookup::LeftOut, from_ref);
+            choose(word, b"reg", Lookup::Kept(Keyword::Reg), from_rw1)
+        }
+        b'w' => {
+            let from_wzt = kept(word, b"wzt", Keyword::Wzt);
+            let from_wzc = choose(word, b"wzc", Lookup::Kept(Keyword::Wzc), from_wzt);
+            let from_wzs = choose(word, b"wzs", Lookup::Kept(Keyword::Wzs), from_wzc);
+            choose(word, b"wot", Lookup::Kept(Keyword::Wot), from_wzs)
+        }
+        _ => Lookup::NotKeyword,
+    }
 }
 
-fn left_out_1(word: &[u8], other: Lookup) -> Lookup
-    ensures { λ r. ⌜ r ≡ entry itself leave other leftOut1 (now (word .entry)) ⌝ }
+fn four_byte_keyword(word: &[u8], first: u8) -> Lookup
+    ensures { λ r. ⌜ r ≡ keywordAmong (candidates 4 first) (now (word .entry)) ⌝ }
 {
-    let from_bit = choose(word, b"bit", Lookup::LeftOut, other);
-    let from_all = choose(word, b"all", Lookup::LeftOut, from_bit);
-    let from_alias = choose(word, b"alias", Lookup::LeftOut, from_all);
-    let from_addressingtype = choose(word, b"addressingtype", Lookup::LeftOut, from_alias);
-    let from_accesstype = choose(word, b"accesstype", Lookup::LeftOut, from_addressingtype);
-    choose(word, b"abstract", Lookup::LeftOut, from_accesstype)
+    match first {
+        b'e' => left_out(word, b"enum"),
+        b'r' => {
+            let from_rset = kept(word, b"rset", Keyword::Rset);
+            choose(word, b"rclr", Lookup::Kept(Keyword::Rclr), from_rset)
+        }
+        b't' => {
+            let from_type = left_out(word, b"type");
+            let from_this = choose(word, b"this", Lookup::LeftOut, from_type);
+            choose(word, b"true", Lookup::Kept(Keyword::True), from_this)
+        }
+        b'w' => {
+            let from_wset = kept(word, b"wset", Keyword::Wset);
+            choose(word, b"wclr", Lookup::Kept(Keyword::Wclr), from_wset)
+        }
+        _ => Lookup::NotKeyword,
+    }
 }
 
-fn left_out_2(word: &[u8], other: Lookup) -> Lookup
-    ensures { λ r. ⌜ r ≡ entry itself leave other leftOut2 (now (word .entry)) ⌝ }
+fn five_byte_keyword(word: &[u8], first: u8) -> Lookup
+    ensures { λ r. ⌜ r ≡ keywordAmong (candidates 5 first) (now (word .entry)) ⌝ }
 {
-    let from_encode = choose(word, b"encode", Lookup::LeftOut, other);
-    let from_constraint = choose(word, b"constraint", Lookup::LeftOut, from_encode);
-    let from_componentwidth = choose(word, b"componentwidth", Lookup::LeftOut, from_constraint);
-    let from_component = choose(word, b"component", Lookup::LeftOut, from_componentwidth);
-    let from_bothedge = choose(word, b"bothedge", Lookup::LeftOut, from_component);
-    choose(word, b"boolean", Lookup::LeftOut, from_bothedge)
+    match first {
+        b'a' => left_out(word, b"alias"),
+        b'f' => {
+            let from_false = kept(word, b"false", Keyword::False);
+            choose(word, b"field", Lookup::Kept(Keyword::Field), from_false)
+        }
+        b'l' => left_out(word, b"level"),
+        b'r' => left_out(word, b"ruser"),
+        b'w' => {
+            let from_wuser = left_out(word, b"wuser");
+            let from_woset = choose(word, b"woset", Lookup::Kept(Keyword::Woset), from_wuser);
+            choose(word, b"woclr", Lookup::Kept(Keyword::Woclr), from_woset)
+        }
+        _ => Lookup::NotKeyword,
+    }
 }
 
-fn left_out_3(word: &[u8], other: Lookup) -> Lookup
-    ensures { λ r. ⌜ r ≡ entry itself leave other leftOut3 (now (word .entry)) ⌝ }
+fn six_byte_keyword(word: &[u8], first: u8) -> Lookup
+    ensures { λ r. ⌜ r ≡ keywordAmong (candidates 6 first) (now (word .entry)) ⌝ }
 {
-    let from_longint = choose(word, b"longint", Lookup::LeftOut, other);
-    let from_level = choose(word, b"level", Lookup::LeftOut, from_longint);
-    let from_internal = choose(word, b"internal", Lookup::LeftOut, from_level);
-    let from_inside = choose(word, b"inside", Lookup::LeftOut, from_internal);
-    let from_external = choose(word, b"external", Lookup::LeftOut, from_inside);
-    choose(word, b"enum", Lookup::LeftOut, from_external)
+    match first {
+        b'e' => left_out(word, b"encode"),
+        b'i' => left_out(word, b"inside"),
+        b'n' => left_out(word, b"number"),
+        b's' => {
+            let from_struct = left_out(word, b"struct");
+            let from_string = choose(word, b"string", Lookup::LeftOut, from_struct);
+            choose(word, b"signal", Lookup::LeftOut, from_string)
+        }
+        _ => Lookup::NotKeyword,
+    }
 }
 
-fn left_out_4(word: &[u8], other: Lookup) -> Lookup
-    ensures { λ r. ⌜ r ≡ entry itself leave other leftOut4 (now (word .entry)) ⌝ }
+fn seven_byte_keyword(word: &[u8], first: u8) -> Lookup
+    ensures { λ r. ⌜ r ≡ keywordAmong (candidates 7 first) (now (word .entry)) ⌝ }
 {
-    let from_onwritetype = choose(word, b"onwritetype", Lookup::LeftOut, other);
-    let from_onreadtype = choose(word, b"onreadtype", Lookup::LeftOut, from_onwritetype);
-    let from_number = choose(word, b"number", Lookup::LeftOut, from_onreadtype);
-    let from_nonsticky = choose(word, b"nonsticky", Lookup::LeftOut, from_number);
-    let from_negedge = choose(word, b"negedge", Lookup::LeftOut, from_nonsticky);
-    choose(word, b"mem", Lookup::LeftOut, from_negedge)
+    match first {
+        b'a' => kept(word, b"addrmap", Keyword::Addrmap),
+        b'b' => left_out(word, b"boolean"),
+        b'c' => kept(word, b"compact", Keyword::Compact),
+        b'd' => kept(word, b"default", Keyword::Default),
+        b'l' => left_out(word, b"longint"),
+        b'n' => left_out(word, b"negedge"),
+        b'p' => left_out(word, b"posedge"),
+        b'r' => kept(word, b"regfile", Keyword::Regfile),
+        _ => Lookup::NotKeyword,
+    }
 }
 
-fn left_out_5(word: &[u8], other: Lookup) -> Lookup
-    ensures { λ r. ⌜ r ≡ entry itself leave other leftOut5 (now (word .entry)) ⌝ }
+fn eight_byte_keyword(word: &[u8], first: u8) -> Lookup
+    ensures { λ r. ⌜ r ≡ keywordAmong (candidates 8 first) (now (word .entry)) ⌝ }
 {
-    let from_signal = choose(word, b"signal", Lookup::LeftOut, other);
-    let from_rw1 = choose(word, b"rw1", Lookup::LeftOut, from_signal);
-    let from_ruser = choose(word, b"ruser", Lookup::LeftOut, from_rw1);
-    let from_ref = choose(word, b"ref", Lookup::LeftOut, from_ruser);
-    let from_property = choose(word, b"property", Lookup::LeftOut, from_ref);
-    choose(word, b"posedge", Lookup::LeftOut, from_property)
+    match first {
+        b'a' => left_out(word, b"abstract"),
+        b'b' => left_out(word, b"bothedge"),
+        b'e' => left_out(word, b"external"),
+        b'i' => left_out(word, b"internal"),
+        b'p' => left_out(word, b"property"),
+        b'r' => kept(word, b"regalign", Keyword::Regalign),
+        b'u' => left_out(word, b"unsigned"),
+        _ => Lookup::NotKeyword,
+    }
 }
 
-fn left_out_6(word: &[u8], other: Lookup) -> Lookup
-    ensures { λ r. ⌜ r ≡ entry itself leave other leftOut6 (now (word .entry)) ⌝ }
+fn nine_byte_keyword(word: &[u8], first: u8) -> Lookup
+    ensures { λ r. ⌜ r ≡ keywordAmong (candidates 9 first) (now (word .entry)) ⌝ }
 {
-    let from_wuser = choose(word, b"wuser", Lookup::LeftOut, other);
-    let from_w1 = choose(word, b"w1", Lookup::LeftOut, from_wuser);
-    let from_unsigned = choose(word, b"unsigned", Lookup::LeftOut, from_w1);
-    let from_type = choose(word, b"type", Lookup::LeftOut, from_unsigned);
-    let from_this = choose(word, b"this", Lookup::LeftOut, from_type);
-    let from_struct = choose(word, b"struct", Lookup::LeftOut, from_this);
-    choose(word, b"string", Lookup::LeftOut, from_struct)
+    match first {
+        b'c' => left_out(word, b"component"),
+        b'f' => kept(word, b"fullalign", Keyword::Fullalign),
+        b'n' => left_out(word, b"nonsticky"),
+        _ => Lookup::NotKeyword,
+    }
 }
 
+fn ten_byte_keyword(word: &[u8], first: u8) -> Lookup
+    ensures { λ r. ⌜ r ≡ keywordAmong (candidates 10 first) (now (word .entry)) ⌝ }
+{
+    match first {
+        b'a' => left_out(word, b"accesstype"),
+        b'c' => left_out(word, b"constraint"),
+        b'o' => left_out(word, b"onreadtype"),
+        _ => Lookup::NotKeyword,
+    }
+}
+
+fn eleven_byte_keyword(word: &[u8], first: u8) -> Lookup
+    ensures { λ r. ⌜ r ≡ keywordAmong (candidates 11 first) (now (word .entry)) ⌝ }
+{
+    match first {
+        b'o' => left_out(word, b"onwritetype"),
+        _ => Lookup::NotKeyword,
+    }
+}
+
+fn fourteen_byte_keyword(word: &[u8], first: u8) -> Lookup
+    ensures { λ r. ⌜ r ≡ keywordAmong (candidates 14 first) (now (word .entry)) ⌝ }
+{
+    match first {
+        b'a' => left_out(word, b"addressingtype"),
+        b'c' => left_out(word, b"componentwidth"),
+        _ => Lookup::NotKeyword,
+    }
+}
+
+// Each function below tests the properties of one list, and answers `other` for a word that is none of them.
 fn access_property(word: &[u8], other: PropertyLookup) -> PropertyLookup
     ensures { λ r. ⌜ r ≡ entry propertyName PropertyLookup.Known other accessProperties (now (word .entry)) ⌝ }
 {
@@ -357,28 +417,26 @@ fn other_property(word: &[u8], other: PropertyLookup) -> PropertyLookup
     )
 }
 
-// Whether a word is one of the keywords left out.
-fn left_out(word: &[u8]) -> Lookup
-    ensures { λ r. ⌜ r ≡ entry itself leave Lookup.NotKeyword leftOutKeywords (now (word .entry)) ⌝ }
-{
-    let sixth = left_out_6(word, Lookup::NotKeyword);
-    let fifth = left_out_5(word, sixth);
-    let fourth = left_out_4(word, fifth);
-    let third = left_out_3(word, fourth);
-    let second = left_out_2(word, third);
-    left_out_1(word, second)
-}
-
-// Whether a word is a keyword, and which.
+// Whether a word is a keyword, and which. Its length and its first byte choose the keywords that it is compared with: four at most.
 pub fn keyword_of(word: &[u8]) -> Lookup
     ensures { λ r. ⌜ r ≡ keywordOf (now (word .entry)) ⌝ }
 {
-    let other = left_out(word);
-    let addressing = addressing_keyword(word, other);
-    let effect = effect_keyword(word, addressing);
-    let access = access_keyword(word, effect);
-    let property = property_keyword(word, access);
-    structure_keyword(word, property)
+    let length = word.len();
+    match length {
+        1 => one_byte_keyword(word, word[0]),
+        2 => two_byte_keyword(word, word[0]),
+        3 => three_byte_keyword(word, word[0]),
+        4 => four_byte_keyword(word, word[0]),
+        5 => five_byte_keyword(word, word[0]),
+        6 => six_byte_keyword(word, word[0]),
+        7 => seven_byte_keyword(word, word[0]),
+        8 => eight_byte_keyword(word, word[0]),
+        9 => nine_byte_keyword(word, word[0]),
+        10 => ten_byte_keyword(word, word[0]),
+        11 => eleven_byte_keyword(word, word[0]),
+        14 => fourteen_byte_keyword(word, word[0]),
+        _ => Lookup::NotKeyword,
+    }
 }
 
 // Which property a word names.

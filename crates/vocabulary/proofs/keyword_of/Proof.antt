@@ -1,28 +1,48 @@
--- The five lists and then the words left out, tested one behind the other, are the list of all keywords.
+-- The keywords of the word's length and first byte give the answer that all keywords give; a word of another length than theirs is none.
 use borrow.Author.Needs.{needs}
-use Rattle.vocabulary.proofs.Laws.{entry-behind}
-use mathlib.Core.List.{_++_}
-use Rattle.vocabulary.specs.Vocabulary.{keywordOf, spelling, structureKeywords, propertyKeywords, accessKeywords, effectKeywords, addressingKeywords}
-use Rattle.vocabulary.specs.declared.Lookup.the-variants.{Kept}
+use Rattle.vocabulary.proofs.Candidates.{keyword-chosen, keyword-none}
+use Rattle.basics.specs.All.{all-none, all-more}
 use Rattle.vocabulary.proofs.keyword_of.Statement.{statement}
 use Rattle.vocabulary.proofs.keyword_of.Tie as tie
 
 pub keyword-of-spec : {M : Type 1} → statement M
-unfolding keywordOf
 keyword-of-spec =
     tie.close
     (tie.spec
-    (λ c κs. search needs)  -- left-out-requires
-    (λ c κs. search needs)  -- addressing-keyword-requires
-    (λ c κs. search needs)  -- effect-keyword-requires
-    (λ c κs. search needs)  -- access-keyword-requires
-    (λ c κs. search needs)  -- property-keyword-requires
-    (λ c κs. search needs)  -- structure-keyword-requires
-    -- returns
-    (λ c.
-    let at-property-keyword = c .before in
-    let at-access-keyword = at-property-keyword .before in
-    let at-effect-keyword = at-access-keyword .before in
-    let at-addressing-keyword = at-effect-keyword .before in
-    let at-left-out = at-addressing-keyword .before in
-    rw (← at-left-out .left-out .ensures) (entry-behind spelling Kept _ _ structureKeywords (propertyKeywords ++ (accessKeywords ++ (effectKeywords ++ addressingKeywords))) (c .structure-keyword .ensures) (entry-behind spelling Kept _ _ propertyKeywords (accessKeywords ++ (effectKeywords ++ addressingKeywords)) (at-property-keyword .property-keyword .ensures) (entry-behind spelling Kept _ _ accessKeywords (effectKeywords ++ addressingKeywords) (at-access-keyword .access-keyword .ensures) (entry-behind spelling Kept _ _ effectKeywords addressingKeywords (at-effect-keyword .effect-keyword .ensures) (at-addressing-keyword .addressing-keyword .ensures)))))))
+    (λ c. search needs)  -- shared-slice-read-one-byte-keyword
+    (λ c κs. search needs)  -- one-byte-keyword-requires
+    (λ c. search needs)  -- shared-slice-read-two-byte-keyword
+    (λ c κs. search needs)  -- two-byte-keyword-requires
+    (λ c. search needs)  -- shared-slice-read-three-byte-keyword
+    (λ c κs. search needs)  -- three-byte-keyword-requires
+    (λ c. search needs)  -- shared-slice-read-four-byte-keyword
+    (λ c κs. search needs)  -- four-byte-keyword-requires
+    (λ c. search needs)  -- shared-slice-read-five-byte-keyword
+    (λ c κs. search needs)  -- five-byte-keyword-requires
+    (λ c. search needs)  -- shared-slice-read-six-byte-keyword
+    (λ c κs. search needs)  -- six-byte-keyword-requires
+    (λ c. search needs)  -- shared-slice-read-seven-byte-keyword
+    (λ c κs. search needs)  -- seven-byte-keyword-requires
+    (λ c. search needs)  -- shared-slice-read-eight-byte-keyword
+    (λ c κs. search needs)  -- eight-byte-keyword-requires
+    (λ c. search needs)  -- shared-slice-read-nine-byte-keyword
+    (λ c κs. search needs)  -- nine-byte-keyword-requires
+    (λ c. search needs)  -- shared-slice-read-ten-byte-keyword
+    (λ c κs. search needs)  -- ten-byte-keyword-requires
+    (λ c. search needs)  -- shared-slice-read-eleven-byte-keyword
+    (λ c κs. search needs)  -- eleven-byte-keyword-requires
+    (λ c. search needs)  -- shared-slice-read-fourteen-byte-keyword
+    (λ c κs. search needs)  -- fourteen-byte-keyword-requires
+    (λ c. search keyword-chosen)  -- returns
+    (λ c. search keyword-chosen)  -- returns-2
+    (λ c. search keyword-chosen)  -- returns-3
+    (λ c. search keyword-chosen)  -- returns-4
+    (λ c. search keyword-chosen)  -- returns-5
+    (λ c. search keyword-chosen)  -- returns-6
+    (λ c. search keyword-chosen)  -- returns-7
+    (λ c. search keyword-chosen)  -- returns-8
+    (λ c. search keyword-chosen)  -- returns-9
+    (λ c. search keyword-chosen)  -- returns-10
+    (λ c. search keyword-chosen)  -- returns-11
+    (λ c. search keyword-chosen)  -- returns-12
+    (λ c. search (keyword-none, all-none, all-more) depth 16))  -- returns-13
