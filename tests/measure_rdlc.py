@@ -56,6 +56,27 @@ def nested_comments():
     return nested("/*" + "x" * 4300 + "*/")
 
 
+def lawful_pairs():
+    """512 registers that are only read, then 512 over the same bytes that are only written."""
+    types = "reg reader { field { sw = r; } f; }; reg writer { field { sw = w; } f; };"
+    readers, writers = (", ".join(f"{name}{n} @ {4 * n}" for n in range(512)) for name in "pq")
+    return f"addrmap m {{ {types} reader {readers}; writer {writers}; }};"
+
+
+def last_over_first():
+    """1,024 registers, of which the last lies over the first."""
+    return f"addrmap m {{ reg t {{ field {{}} f; }}; t {', '.join(f'a{n}' for n in range(1023))}; t z @ 0; }};"
+
+
+def short_sums():
+    """Seven levels of regfiles with one instance each, 1,024 of the outmost, a sum of 56 bytes in each instance, and a comment."""
+    address = " @ 0" + "+0" * 28
+    text = f"regfile r0 {{ {REG} a{address}; }}; "
+    for level in range(6):
+        text += f"regfile r{level + 1} {{ r{level} b{address}; }}; "
+    return filled(text + "addrmap m { r6 b[1024]; };", "", "x")
+
+
 TEXTS = {
     "heron": lambda: (PROGRAM.parent.parent.parent / "examples" / "heron.rdl").read_text(),
     "ordinary": measure_rules.ordinary,
@@ -67,9 +88,12 @@ TEXTS = {
     "comment inside": commented_inside,
     "nested comments": nested_comments,
     "names": lambda: single(8000),
+    "lawful pairs": lawful_pairs,
+    "last over first": last_over_first,
+    "short sums": short_sums,
 }
 # those of the rules stage that take long there, and those with sums
-CHOSEN = "b2 c2 c3 d e2 g i i2 i3 i4 i6".split()
+CHOSEN = "b b2 c2 c3 d e2 g j i i2 i3 i4 i6".split()
 TEXTS.update({label: make for label, _, make in measure_rules.TEXTS if label in CHOSEN})
 
 

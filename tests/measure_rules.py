@@ -171,6 +171,30 @@ def summed_field():
     return with_sum(FIELD_TYPES + REGISTER + "R first[0:", "];W second[0:0];" + fields + USED)
 
 
+def one_fingerprint(count=7000):
+    """Names of eight bytes that share a fingerprint (crates/identifiers): a beginning of four bytes, and an ending that makes up for it."""
+    factor, bound = 16777619, 1 << 32
+
+    def prints(first, length):
+        words = product(first, *[LATER] * (length - 1))
+        for word in map("".join, words):
+            value = 0
+            for byte in word.encode():
+                value = (value * factor + byte) % bound
+            yield value, word
+
+    beginnings = dict(islice(prints(FIRST, 4), 0, 1 << 22, 2))
+    shift = pow(factor, -4, bound)
+    found = 0
+    for value, ending in prints(LATER, 4):
+        beginning = beginnings.get((12345 - value) * shift % bound)
+        if beginning:
+            yield beginning + ending
+            found += 1
+            if found == count:
+                return
+
+
 TEXTS = [
     ("a", "an ordinary post", ordinary),
     ("b", "8,000 instances in one body, names of 7 bytes", lambda: instances(islice(names_of("a", 6), 8000))),
@@ -185,6 +209,7 @@ TEXTS = [
     ("g", "254 types, each use is of the type declared first", lambda: many_types(short_names(), short_names())),
     ("g2", "the same, type names of 31 bytes that differ at the end", lambda: many_types(names_of("t" * 28, 3), short_names())),
     ("h", "instance names of 31 bytes that differ at the end", lambda: instances(names_of("a" * 26, 5))),
+    ("j", "7,000 instances in one body whose names share a fingerprint", lambda: instances(one_fingerprint())),
     ("i", "a sum of 65,000 bytes as an address", lambda: with_sum("addrmap m{reg{field{}f;}a@", ";};")),
     ("i2", "a sum of 65,000 bytes as the value of a reset", lambda: with_sum("addrmap m{reg{field{reset=", ";}f;}a;};")),
     ("i3", "128 fields in one register, a sum of 64,000 bytes in the first", summed_field),

@@ -1,55 +1,56 @@
 -- Laws of the cells, in the form that the proofs use.
-use mathlib.Core.Bool.{Bool, true, false, _&&_}
+use mathlib.Core.Bool.{Bool, true, false}
 use mathlib.Core.Path.{_≡_, refl, sym, _∙_}
 use mathlib.Core.List.{List, [], _∷_}
 use Prim.Native.Nat.{ℕ, zero, suc, _+_, _-_, _*_, _^_, _<_, _≤_}
-use native.Mathlib.Numerals.{add-one}
 use native.Mathlib.Omega.{arith}
 use lib.ListN.{length, set, getD, length-set}
 use lib.Seq.{getD-set-same, getD-set-other}
-use lib.Dec.{eqb, ltb}
-use borrow.Author.Tests.{eq-eqb, ne-eqb, eqb-false, lt-ltb, le-ltb, ltb-true, ltb-false}
+use lib.Dec.{ltb}
+use borrow.Author.Tests.{eq-eqb, ne-eqb, lt-ltb, le-ltb, ltb-true, ltb-false}
 use Rattle.basics.specs.Choice.{if_then_else_}
 use Rattle.basics.specs.Limits.{definitionLimit}
 use Rattle.parts.specs.Reading.{Parsed, ok, stop as refused}
-use Rattle.parts.specs.Parts.{nameAt, instanceAt}
-use Rattle.parts.specs.Answers.{nameRead, instanceRead}
+use Rattle.parts.specs.Parts.{instanceAt}
+use Rattle.parts.specs.Answers.{instanceRead}
 use Rattle.parts.specs.declared.Name.{Name}
 use Rattle.parts.specs.declared.Instance.{Instance}
 use Rattle.parts.specs.declared.InstanceReading.{InstanceReading}
 use Rattle.parts.specs.declared.InstanceReading.the-variants as instanceReading
-use Rattle.parts.specs.declared.NameReading.{NameReading}
-use Rattle.parts.specs.declared.NameReading.the-variants as nameReading
-use Rattle.identifiers.specs.Names.{sameName, isAmong, fingerprint}
-use Rattle.identifiers.proofs.Laws.{other-print}
+use Rattle.identifiers.specs.Names.{sameName}
 use Rattle.basics.specs.declared.Given.{Given}
 use Rattle.basics.specs.declared.Given.the-variants.{Nothing, Number}
 use Rattle.components.specs.declared.Component.{Component}
 use Rattle.components.specs.declared.Component.the-variants as component
-use Rattle.cells.proofs.InstanceName.{instance-named}
 use Rattle.cells.specs.declared.Values.{Values}
 use Rattle.cells.specs.declared.Row.{Row}
 use Rattle.cells.specs.declared.ChildReading.{ChildReading}
 use Rattle.cells.specs.declared.ChildReading.the-variants as childReading
 use Rattle.basics.specs.Slices.{cellOf, written}
 use Rattle.basics.specs.Given.{givenFrom, flagOf, numberOf}
-use Rattle.cells.specs.Cells.{instanceRoom, filedAt, entryPlaces, componentFrom, firstIn, countIn, valuesOf, nameIn, belowIn, valueCells, otherCells, entryOf, placeIn, rowIn, printIn, moved}
-use Rattle.cells.specs.Definitions.{Child, VisibleType, lookup, namesOf}
-use Rattle.cells.specs.Decoded.{typesFrom, typesIn, isNamedAs, isEntryNamed, someNamed, childRead, childIn}
-use Rattle.cells.specs.Relation.{IsEntry, Block, block-end, block-on, Chain, chain-stop, chain-on, agreeing, Agrees}
+use Rattle.cells.specs.Cells.{instanceRoom, entriesAt, entryPlaces, componentFrom, firstIn, countIn, valuesOf, nameIn, belowIn, valueCells, otherCells, linkBound, entryOf, placeIn, rowIn, leftIn, rightIn, moved}
+use Rattle.cells.specs.Definitions.{Child, VisibleType, lookup}
+use Rattle.cells.specs.Decoded.{typesFrom, typesIn, childRead, childIn}
+use Rattle.cells.specs.Relation.{IsEntry, Chain, chain-stop, chain-on}
 
 -- an instance in a cell
-pub entry-place : (p r q : ℕ) → p < entryPlaces → r < definitionLimit → placeIn (entryOf p r q) ≡ p
-unfolding placeIn entryOf
-entry-place p r q h k = omega arith
+module _ (p r l q : ℕ) (h : p < entryPlaces) (k : r < definitionLimit) where
+  pub entry-place : placeIn (entryOf p r l q) ≡ p
+  unfolding placeIn entryOf
+  entry-place = omega arith
 
-pub entry-row : (p r q : ℕ) → p < entryPlaces → r < definitionLimit → rowIn (entryOf p r q) ≡ r
-unfolding rowIn entryOf
-entry-row p r q h k = omega arith
+  pub entry-row : rowIn (entryOf p r l q) ≡ r
+  unfolding rowIn entryOf
+  entry-row = omega arith
 
-pub entry-print : (p r q : ℕ) → p < entryPlaces → r < definitionLimit → printIn (entryOf p r q) ≡ q
-unfolding printIn entryOf
-entry-print p r q h k = omega arith
+  module _ (m : l < linkBound) where
+    pub entry-left : leftIn (entryOf p r l q) ≡ l
+    unfolding leftIn entryOf
+    entry-left = omega arith
+
+    pub entry-right : rightIn (entryOf p r l q) ≡ q
+    unfolding rightIn entryOf
+    entry-right = omega arith
 
 pub row-low : (x : ℕ) → rowIn x < definitionLimit
 unfolding rowIn
@@ -57,10 +58,10 @@ row-low x = omega arith
 
 -- the cells of a row's instances
 module _ (t : List ℕ) (row : ℕ) (room : firstIn t row + countIn t row ≤ instanceRoom) {n : ℕ} (f : n ≡ firstIn t row) where
-  pub from-fits : filedAt + n < 2 ^ 64
+  pub from-fits : entriesAt + n < 2 ^ 64
   from-fits = omega (arith, room)
 
-  pub to-fits : {k : ℕ} → k ≡ countIn t row → filedAt + n + k < 2 ^ 64
+  pub to-fits : {k : ℕ} → k ≡ countIn t row → entriesAt + n + k < 2 ^ 64
   to-fits g = omega (arith, room)
 
 -- the instance of a cell
@@ -188,50 +189,43 @@ row-put t i r e0 e1 e2 e3 e4 e5 =
 pub moved-length : (t : List ℕ) (from to count : ℕ) → length (moved t from to count) ≡ length t
 unfolding moved
 moved-length t from to zero = refl
-moved-length t from to (suc count) = moved-length (set t to (cellOf t from)) (from + 1) (to + 1) count ∙ length-set t to (cellOf t from)
+moved-length t from to (suc count) =
+    let x : ℕ = cellOf t (from + count) in
+    moved-length (set t (to + count) x) from to count ∙ length-set t (to + count) x
 
 pub moved-other : (t : List ℕ) (from to count j : ℕ) → (to ≤ j → to + count ≤ j) → cellOf (moved t from to count) j ≡ cellOf t j
 unfolding moved
 moved-other t from to zero j h = refl
 moved-other t from to (suc count) j h =
-    moved-other (set t to (cellOf t from)) (from + 1) (to + 1) count j (λ l. let w : to + suc count ≤ j = h (omega arith) in omega arith)
-    ∙ getD-set-other t to j (cellOf t from) 0 (λ e. let w : to + suc count ≤ j = h (omega arith) in omega arith)
+    let x : ℕ = cellOf t (from + count) in
+    moved-other (set t (to + count) x) from to count j (λ l. let w : to + suc count ≤ j = h l in omega arith)
+    ∙ getD-set-other t (to + count) j x 0 (λ e. let w : to + suc count ≤ j = h (omega arith) in omega arith)
 
-pub moved-same : (t : List ℕ) (from to count k : ℕ) → to + count ≤ from → from + count ≤ length t → k < count → cellOf (moved t from to count) (to + k) ≡ cellOf t (from + k)
+pub moved-same : (t : List ℕ) (from to count k : ℕ) → from ≤ to → to + count ≤ length t → k < count → cellOf (moved t from to count) (to + k) ≡ cellOf t (from + k)
 unfolding moved
 moved-same t from to zero k h l m = absurd (omega arith)
-moved-same t from to (suc count) zero h l m =
-    let n : to + 0 ≡ to = omega arith in
-    let n′ : from + 0 ≡ from = omega arith in
-    rw (n, n′) (moved-other (set t to (cellOf t from)) (from + 1) (to + 1) count to (λ l. absurd (omega arith)) ∙ getD-set-same t to (cellOf t from) 0 (omega arith))
-moved-same t from to (suc count) (suc k) h l m =
-    let n : to + suc k ≡ to + 1 + k = omega arith in
-    let n′ : from + suc k ≡ from + 1 + k = omega arith in
-    let w : from + 1 + count ≤ length (set t to (cellOf t from)) = rw (length-set t to (cellOf t from)) (omega arith) in
-    rw (n, n′) (moved-same (set t to (cellOf t from)) (from + 1) (to + 1) count k (omega arith) w (omega arith)
-    ∙ getD-set-other t to (from + 1 + k) (cellOf t from) 0 (λ e. omega arith))
+moved-same t from to (suc count) k h l m =
+    by (ltb k count) refl (λ n. moved-same (set t (to + count) (cellOf t (from + count))) from to count k h (rw (length-set t (to + count) (cellOf t (from + count))) (omega arith)) n)
+  where
+    by : (b : Bool) → ltb k count ≡ b → (k < count → cellOf (moved (set t (to + count) (cellOf t (from + count))) from to count) (to + k) ≡ cellOf (set t (to + count) (cellOf t (from + count))) (from + k))
+        → cellOf (moved (set t (to + count) (cellOf t (from + count))) from to count) (to + k) ≡ cellOf t (from + k)
+    by true q earlier =
+        let n : k < count = ltb-true k count q in
+        earlier n ∙ getD-set-other t (to + count) (from + k) (cellOf t (from + count)) 0 (λ e. omega (arith, n))
+    by false q earlier =
+        let n : k ≡ count = omega (arith, m, ltb-false k count q) in
+        rw n (moved-other (set t (to + count) (cellOf t (from + count))) from to count (to + count) (λ l. omega arith)
+        ∙ getD-set-same t (to + count) (cellOf t (from + count)) 0 (omega (arith, l)))
 
 -- what is left to move comes to x
-module _ (from to count : ℕ) where
-  pub move-start : (t : List ℕ) → moved t (from + 0) (to + 0) (count - 0) ≡ moved t from to count
-  move-start t =
-      let a : from + 0 ≡ from = omega arith in
-      let b : to + 0 ≡ to = omega arith in
-      let c : count - 0 ≡ count = omega arith in
-      rw (a, b, c)
+module _ (from to left : ℕ) (t : List ℕ) {x : List ℕ} (at : moved t from to left ≡ x) where
+  pub move-end : left ≤ 0 → t ≡ x
+  unfolding moved
+  move-end h = let n : left ≡ 0 = omega arith in rw n at at
 
-  module _ (t : List ℕ) (k : ℕ) {x : List ℕ} (at : moved t (from + k) (to + k) (count - k) ≡ x) where
-    pub move-end : count ≤ k → t ≡ x
-    unfolding moved
-    move-end h = let n : count - k ≡ 0 = omega arith in rw n at at
-
-    pub move-next : {u : List ℕ} {v : ℕ} → k < count → v ≡ cellOf t (from + k) → u ≡ set t (to + k) v → moved u (from + (k + 1)) (to + (k + 1)) (count - (k + 1)) ≡ x
-    unfolding moved
-    move-next h e f =
-        let n : count - k ≡ suc (count - (k + 1)) = omega arith in
-        let a : from + (k + 1) ≡ from + k + 1 = omega arith in
-        let b : to + (k + 1) ≡ to + k + 1 = omega arith in
-        rw (f, e, a, b) (rw n at at)
+  pub move-next : {k v : ℕ} {u : List ℕ} → 0 < left → k ≡ left - 1 → v ≡ cellOf t (from + k) → u ≡ set t (to + k) v → moved u from to k ≡ x
+  unfolding moved
+  move-next {k} h e f g = let n : left ≡ suc k = omega (arith, e) in rw (g, f) (rw n at at)
 
 -- the types that a chain has are those that the cells decode to
 pub chain-types : (fuel : ℕ) {t : List ℕ} {stop head : ℕ} {es : List VisibleType} → head ≤ fuel → Chain t stop head es → typesFrom fuel t stop head ≡ es
@@ -302,121 +296,3 @@ module _ (text t : List ℕ) (stop : ℕ) (name : Name) where
             let l = s .low in
             let m = s .enough in
             record { low = omega (arith, z .1); fuel = s .fuel - 1; enough = omega (arith, z .1); same = rw (z .0, e) (types-next (s .fuel) m h (same-here ∙ y) (s .same)) }
-
--- the name at a place
-module _ (text : List ℕ) (place : ℕ) (name : Name) {x : NameReading} (e : nameRead x ≡ nameAt text place) where
-  pub named-done : {other : Name} {n : ℕ} {r : Bool} → x ≡ nameReading.Done other n → r ≡ sameName text name other → r ≡ isNamedAs text name (nameAt text place)
-  named-done f g = rw (← e, f) g
-
-  pub named-stop : {q : ℕ} → x ≡ nameReading.Refused q → false ≡ isNamedAs text name (nameAt text place)
-  named-stop f = rw (← e, f)
-
--- the instance of a cell
-module _ (text : List ℕ) (x : ℕ) (name : Name) where
-  pub print-other : {print p : ℕ} → print ≡ fingerprint text name → p ≡ printIn x → (p ≡ print → ⊥) → false ≡ isEntryNamed text x name
-  unfolding isEntryNamed
-  print-other e f g = rw (ne-eqb (printIn x) (fingerprint text name) (λ q. g (f ∙ q ∙ sym e)))
-
-  pub print-same : {print p place : ℕ} {r : Bool} → print ≡ fingerprint text name → p ≡ printIn x → p ≡ print → place ≡ placeIn x → r ≡ isNamedAs text name (nameAt text place)
-      → r ≡ isEntryNamed text x name
-  unfolding isEntryNamed
-  print-same e f g h n = rw (eq-eqb (printIn x) (fingerprint text name) (sym f ∙ g ∙ e), ← h) n
-
-  entry-named : {c : Child} → IsEntry text x c → isEntryNamed text x name ≡ sameName text name (c .instance .name)
-  unfolding isEntryNamed
-  entry-named {c} k = by (eqb (printIn x) (fingerprint text name)) refl
-    where
-      by : (b : Bool) → eqb (printIn x) (fingerprint text name) ≡ b → (b && isNamedAs text name (nameAt text (placeIn x))) ≡ sameName text name (c .instance .name)
-      by true q = rw (instance-named text (placeIn x) (k .reads) .reads)
-      by false q = sym (other-print text name (c .instance .name) (λ w. eqb-false (printIn x) (fingerprint text name) q (k .print ∙ sym w)))
-
--- the names of the instances that stand in cells
-pub block-named : (text t : List ℕ) (name : Name) {i : ℕ} {cs : List Child} → Block text t i cs → someNamed text t i (length cs) name ≡ isAmong text name (namesOf cs)
-unfolding someNamed isAmong
-block-named text t name block-end = refl
-block-named text t name (block-on {i = i} k b) = rw (entry-named text (cellOf t i) name k, block-named text t name b)
-
--- the name is among the cells that are left to look at exactly when it is among all
-pub record Looking (text t : List ℕ) (from to : ℕ) (name : Name) (i : ℕ) : Type 0 where
-  pub same : someNamed text t i (to - i) name ≡ someNamed text t from (to - from) name
-
-module _ (text t : List ℕ) (from to : ℕ) (name : Name) where
-  pub look-start : Looking text t from to name from
-  look-start = record { same = refl }
-
-  module _ {i : ℕ} (s : Looking text t from to name i) where
-    pub look-end : to ≤ i → false ≡ someNamed text t from (to - from) name
-    unfolding someNamed
-    look-end h = let n : to - i ≡ 0 = omega arith in rw n at (s .same)
-
-    module _ {x : ℕ} {r : Bool} (h : i < to) (e : x ≡ cellOf t i) (a : r ≡ isEntryNamed text x name) where
-      left : to - i ≡ suc (to - (i + 1))
-      left = omega arith
-
-      here : isEntryNamed text (cellOf t i) name ≡ r
-      here = rw (← e) (sym a)
-
-      pub look-here : r ≡ true → true ≡ someNamed text t from (to - from) name
-      unfolding someNamed
-      look-here y = rw (left, here, y) at (s .same)
-
-      pub look-on : r ≡ false → Looking text t from to name (i + 1)
-      unfolding someNamed
-      look-on y = let n : i + 1 ≡ suc i = add-one i in record { same = rw n (rw (left, here, y, n) at (s .same)) }
-
--- a pass over fingerprints: while the sum is 0 none agreed
-pub record Counting (t : List ℕ) (from print i found : ℕ) : Type 0 where
-  pub few : found ≤ i
-  pub none : found ≡ 0 → (j : ℕ) → from ≤ j → j < i → printIn (cellOf t j) ≡ print → ⊥
-
-module _ (t : List ℕ) (from print : ℕ) where
-  pub count-start : Counting t from print from 0
-  count-start = record { few = omega arith; none = λ z j l h e. omega (arith, l, h) }
-
-  module _ {i found : ℕ} (c : Counting t from print i found) where
-    pub count-on : {a : ℕ} → a ≡ agreeing (printIn (getD t i 0)) print → Counting t from print (i + 1) (found + a)
-    count-on {a} e = by (eqb (printIn (getD t i 0)) print) refl
-      where
-        last : eqb (printIn (getD t i 0)) print ≡ false → (j : ℕ) → i ≤ j → j < i + 1 → printIn (cellOf t j) ≡ print → ⊥
-        last q j l h w =
-            let m : j ≡ i = omega arith in
-            let o : true ≡ false = sym (eq-eqb (printIn (getD t i 0)) print (rw m at w)) ∙ q in
-            let z : _≡_ {A = ℕ} 0 1 = cc in
-            omega arith
-
-        each : (x : Bool) (j : ℕ) → ltb j i ≡ x → eqb (printIn (getD t i 0)) print ≡ false → found ≡ 0 → from ≤ j → j < i + 1 → printIn (cellOf t j) ≡ print → ⊥
-        each true j x q y l h w = c .none y j l (ltb-true j i x) w
-        each false j x q y l h w = last q j (ltb-false j i x) h w
-
-        by : (b : Bool) → eqb (printIn (getD t i 0)) print ≡ b → Counting t from print (i + 1) (found + a)
-        by true q =
-            let z : a ≡ 1 = rw q at e in
-            record { few = omega (arith, c .few, z); none = λ y j l h w. omega (arith, y, z) }
-        by false q =
-            let z : a ≡ 0 = rw q at e in
-            record { few = omega (arith, c .few, z); none = λ y j l h w. each (ltb j i) j refl q (omega (arith, y, z)) l h w }
-
-    pub count-none : {to : ℕ} → to ≤ i → found ≡ 0 → Agrees t from to print false
-    count-none h y = record { none = λ z j l k e. c .none y j l (omega (arith, k, h)) e }
-
-    pub count-some : {to : ℕ} → Agrees t from to print true
-    count-some = record { none = λ z j l k e. absurd (let o : _≡_ {A = ℕ} 0 1 = cc in omega arith) }
-
-pub agrees-few : (t : List ℕ) (from to print : ℕ) → Agrees t from to print true
-agrees-few t from to print = record { none = λ z j l k e. absurd (let o : _≡_ {A = ℕ} 0 1 = cc in omega arith) }
-
-pub agreeing-yes : (a b : ℕ) → a ≡ b → 1 ≡ agreeing a b
-agreeing-yes a b e = rw (eq-eqb a b e)
-
-pub agreeing-no : (a b : ℕ) → (a ≡ b → ⊥) → 0 ≡ agreeing a b
-agreeing-no a b e = rw (ne-eqb a b e)
-
--- where no fingerprint agrees no cell has the name
-none-named : (text t : List ℕ) (name : Name) (i count : ℕ) → ((j : ℕ) → i ≤ j → j < i + count → printIn (cellOf t j) ≡ fingerprint text name → ⊥) → false ≡ someNamed text t i count name
-unfolding someNamed isEntryNamed
-none-named text t name i zero none = refl
-none-named text t name i (suc count) none =
-    rw (ne-eqb (printIn (cellOf t i)) (fingerprint text name) (none i (omega arith) (omega arith))) (none-named text t name (suc i) count (λ j l h. none j (omega (arith, l)) (omega (arith, h))))
-
-pub look-none : (text t : List ℕ) (from to : ℕ) (name : Name) {print : ℕ} {b : Bool} → print ≡ fingerprint text name → Agrees t from to print b → b ≡ false → false ≡ someNamed text t from (to - from) name
-look-none text t from to name e a y = none-named text t name from (to - from) (λ j l h q. a .none y j l (omega (arith, l, h)) (q ∙ sym e))

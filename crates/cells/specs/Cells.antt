@@ -1,5 +1,5 @@
 -- The cells in which the compiler keeps what it knows of a text: 256 rows of 16 cells, one for each definition in the order of closing
--- braces; then the instances of the definitions that are closed, one cell each; then those of the bodies that are open.
+-- braces; then the instances, one cell each: those of the bodies that are open from the front, those of closed definitions from the end.
 -- A row: 0 the kind, 1 to 6 the component's values, 7 and 8 the first of its instances and how many, 9 and 10 its name, 11 the type
 -- declared before it.
 use mathlib.Core.List.{List, [], _∷_}
@@ -22,23 +22,23 @@ use Rattle.basics.specs.Slices.{cellOf}
 abbrev pub definitionWidth : ℕ
 definitionWidth = 16
 
--- how many instances there is room for: of closed definitions, and as many of open bodies
+-- how many instances there is room for
 abbrev pub instanceRoom : ℕ
 instanceRoom = 32768
 
--- where the instances of closed definitions stand, where those of open bodies do, and where the cells end
-abbrev pub filedAt : ℕ
-filedAt = definitionLimit * definitionWidth
-
-abbrev pub openAt : ℕ
-openAt = filedAt + instanceRoom
+-- where the instances begin, and where the cells end
+abbrev pub entriesAt : ℕ
+entriesAt = definitionLimit * definitionWidth
 
 abbrev pub size : ℕ
-size = openAt + instanceRoom
+size = entriesAt + instanceRoom
 
--- how many places an instance's cell tells apart; no text is so long
+-- how many places an instance's cell tells apart, and how many instances of a body: no text is so long, and no body has room for more
 abbrev pub entryPlaces : ℕ
-entryPlaces = 131072
+entryPlaces = 1048576
+
+abbrev pub linkBound : ℕ
+linkBound = 262144
 
 -- a kind's number, in the order addrmap, regfile, reg, field
 abbrev pub rank : Kind → ℕ
@@ -98,9 +98,9 @@ valueCells v = v .kind ∷ v .a ∷ v .b ∷ v .c ∷ v .d ∷ v .e ∷ v .f ∷
 abbrev pub otherCells : Row → List ℕ
 otherCells r = r .first ∷ r .count ∷ r .name .start ∷ r .name .end ∷ r .below ∷ []
 
--- an instance in a cell: its place in the text, its type's row, its name's fingerprint
-unfoldable pub entryOf : ℕ → ℕ → ℕ → ℕ
-entryOf place row print = place + entryPlaces * (row + definitionLimit * print)
+-- an instance in a cell: its name's place in the text, its type's row, and two instances of its body (crate `name_tree` says which)
+unfoldable pub entryOf : ℕ → ℕ → ℕ → ℕ → ℕ
+entryOf place row left right = place + entryPlaces * (row + definitionLimit * (left + linkBound * right))
 
 unfoldable pub placeIn : ℕ → ℕ
 placeIn x = x % entryPlaces
@@ -108,10 +108,13 @@ placeIn x = x % entryPlaces
 unfoldable pub rowIn : ℕ → ℕ
 rowIn x = x / entryPlaces % definitionLimit
 
-unfoldable pub printIn : ℕ → ℕ
-printIn x = x / (entryPlaces * definitionLimit)
+unfoldable pub leftIn : ℕ → ℕ
+leftIn x = x / (entryPlaces * definitionLimit) % linkBound
 
--- `count` cells moved from one index to another, the first first
+unfoldable pub rightIn : ℕ → ℕ
+rightIn x = x / (entryPlaces * definitionLimit) / linkBound
+
+-- `count` cells moved from one index to another, the last first
 unfoldable pub moved : List ℕ → ℕ → ℕ → ℕ → List ℕ
 moved t from to zero = t
-moved t from to (suc count) = moved (set t to (cellOf t from)) (from + 1) (to + 1) count
+moved t from to (suc count) = moved (set t (to + count) (cellOf t (from + count))) from to count

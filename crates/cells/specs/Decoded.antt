@@ -1,16 +1,12 @@
--- What the cells decode to, whatever they hold: the types from a row down, the instance of a cell, and whether one has a name.
-use mathlib.Core.Bool.{Bool, false, _||_, _&&_}
+-- What the cells decode to, whatever they hold: the types from a row down, and the instance of a cell.
 use mathlib.Core.List.{List, [], _∷_}
 use Prim.Native.Nat.{ℕ, zero, suc, _-_}
-use lib.Dec.{eqb, ltb}
+use lib.Dec.{ltb}
 use Rattle.basics.specs.Choice.{if_then_else_}
 use Rattle.parts.specs.Reading.{Parsed, ok, stop as refused}
-use Rattle.parts.specs.Parts.{nameAt, instanceAt}
-use Rattle.parts.specs.declared.Name.{Name}
+use Rattle.parts.specs.Parts.{instanceAt}
 use Rattle.parts.specs.declared.Instance.{Instance}
-use Rattle.identifiers.specs.Names.{sameName, fingerprint}
-use Rattle.basics.specs.Slices.{cellOf}
-use Rattle.cells.specs.Cells.{nameIn, belowIn, placeIn, rowIn, printIn}
+use Rattle.cells.specs.Cells.{nameIn, belowIn, placeIn, rowIn}
 use Rattle.cells.specs.declared.ChildReading.{ChildReading}
 use Rattle.cells.specs.declared.ChildReading.the-variants as child
 use Rattle.cells.specs.Definitions.{VisibleType}
@@ -32,17 +28,3 @@ childRead row (refused number place) = child.Refused number place
 
 unfoldable pub childIn : List ℕ → ℕ → ChildReading
 childIn text x = childRead (rowIn x) (instanceAt text (placeIn x))
-
--- whether what is read is this name
-abbrev pub isNamedAs : List ℕ → Name → Parsed Name → Bool
-isNamedAs text name (ok other next) = sameName text name other
-isNamedAs text name (refused number place) = false
-
--- whether a cell has the fingerprint of this name, and the instance at its place begins with the name
-unfoldable pub isEntryNamed : List ℕ → ℕ → Name → Bool
-isEntryNamed text x name = eqb (printIn x) (fingerprint text name) && isNamedAs text name (nameAt text (placeIn x))
-
--- whether one of the `count` cells from the index `i` on has this name
-unfoldable pub someNamed : List ℕ → List ℕ → ℕ → ℕ → Name → Bool
-someNamed text t i zero name = false
-someNamed text t i (suc count) name = isEntryNamed text (cellOf t i) name || someNamed text t (suc i) count name

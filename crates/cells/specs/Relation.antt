@@ -1,37 +1,34 @@
 -- What the cells say of a text: its definitions, its instances and its types.
 use mathlib.Core.Path.{_≡_}
-use mathlib.Core.Bool.{Bool, false}
 use mathlib.Core.List.{List, [], _∷_}
 use Prim.Native.Nat.{ℕ, suc, _+_, _<_, _≤_}
-use lib.Dec.{eqb}
 use lib.ListN.{length, getD}
-use Rattle.basics.specs.Choice.{if_then_else_}
 use Rattle.parts.specs.Reading.{ok}
 use Rattle.parts.specs.Parts.{instanceAt}
-use Rattle.identifiers.specs.Names.{fingerprint}
 use Rattle.basics.specs.Slices.{cellOf}
-use Rattle.cells.specs.Cells.{filedAt, componentIn, firstIn, countIn, nameIn, belowIn, placeIn, rowIn, printIn}
+use Rattle.cells.specs.Cells.{instanceRoom, entriesAt, componentIn, firstIn, countIn, nameIn, belowIn, placeIn, rowIn}
 use Rattle.cells.specs.Definitions.{Child, Definition, VisibleType, noDefinition}
 
--- a cell holds an instance
+-- a cell holds an instance, which stands where its name does
 pub record IsEntry (text : List ℕ) (x : ℕ) (c : Child) : Type 0 where
   pub next : ℕ
   pub reads : instanceAt text (placeIn x) ≡ ok (c .instance) next
+  pub starts : placeIn x ≡ c .instance .name .start
   pub type : rowIn x ≡ c .type
-  pub print : printIn x ≡ fingerprint text (c .instance .name)
 
 -- the cells from an index on hold these instances
 pub data Block (text t : List ℕ) : ℕ → List Child → Type 0 where
   block-end : {i : ℕ} → Block text t i []
   block-on : {i : ℕ} {c : Child} {cs : List Child} → IsEntry text (cellOf t i) c → Block text t (suc i) cs → Block text t i (c ∷ cs)
 
--- a row holds a definition whose instances stand among the first `filed` of the closed ones
+-- a row holds a definition whose instances stand among the last `filed`
 pub record IsRow (text t : List ℕ) (filed row : ℕ) (d : Definition) : Type 0 where
   pub name : nameIn t row ≡ d .name
   pub component : componentIn t row ≡ d .component
-  pub instances : Block text t (filedAt + firstIn t row) (d .instances)
+  pub instances : Block text t (entriesAt + firstIn t row) (d .instances)
   pub count : countIn t row ≡ length (d .instances)
-  pub within : firstIn t row + length (d .instances) ≤ filed
+  pub behind : instanceRoom ≤ filed + firstIn t row
+  pub within : firstIn t row + length (d .instances) ≤ instanceRoom
 
 -- the first rows hold the definitions that are closed
 pub record Holds (text t : List ℕ) (closed filed : ℕ) (table : List Definition) : Type 0 where
@@ -42,11 +39,3 @@ pub record Holds (text t : List ℕ) (closed filed : ℕ) (table : List Definiti
 pub data Chain (t : List ℕ) (stop : ℕ) : ℕ → List VisibleType → Type 0 where
   chain-stop : Chain t stop stop []
   chain-on : {e : VisibleType} {es : List VisibleType} → stop ≤ e .row → nameIn t (e .row) ≡ e .name → stop ≤ belowIn t (e .row) → Chain t stop (belowIn t (e .row)) es → Chain t stop (suc (e .row)) (e ∷ es)
-
--- 1 for equal fingerprints
-abbrev pub agreeing : ℕ → ℕ → ℕ
-agreeing a b = if eqb a b then 1 else 0
-
--- what `any_agrees` answers: where it says no, no cell from one up to another has this fingerprint
-pub record Agrees (t : List ℕ) (from to print : ℕ) (answer : Bool) : Type 0 where
-  pub none : answer ≡ false → (j : ℕ) → from ≤ j → j < to → printIn (cellOf t j) ≡ print → ⊥

@@ -1,5 +1,5 @@
-// The cells in which the compiler keeps what it knows of a text: a row for each definition, the instances of closed definitions, and
-// those of open bodies.
+// The cells in which the compiler keeps what it knows of a text: a row for each definition, then the instances, those of open bodies from
+// the front and those of closed definitions from the end.
 use basics::Given;
 use components::Component;
 use fields::FieldType;
@@ -8,37 +8,33 @@ use parts::Instance;
 use parts::InstanceReading;
 use parts::Kind;
 use parts::Name;
-use parts::NameReading;
 ghost use mathlib.Core.Path.{_≡_};
 ghost use Prim.Native.Nat.{_+_, _-_, _*_, _≤_, _<_};
 ghost use Rattle.basics.specs.Limits.{definitionLimit};
 ghost use Rattle.basics.specs.Slices.{cellOf, written};
-ghost use Rattle.cells.specs.Cells.{definitionWidth, instanceRoom, filedAt, entryPlaces, rank, componentFrom, valuesIn, valuesOf, componentIn, firstIn, countIn, nameIn, belowIn, valueCells, otherCells, entryOf, placeIn, rowIn, printIn, moved};
-ghost use Rattle.identifiers.specs.Names.{fingerprint, printBound};
-ghost use Rattle.parts.specs.Parts.{nameAt};
-ghost use Rattle.cells.specs.Decoded.{typesIn, isNamedAs, isEntryNamed, someNamed, childIn};
+ghost use Rattle.cells.specs.Cells.{definitionWidth, instanceRoom, entriesAt, entryPlaces, rank, componentFrom, valuesIn, valuesOf, componentIn, firstIn, countIn, nameIn, belowIn, valueCells, otherCells, linkBound, entryOf, placeIn, rowIn, leftIn, rightIn, moved};
+ghost use Rattle.cells.specs.Decoded.{typesIn, childIn};
 ghost use Rattle.cells.specs.Definitions.{lookup};
-ghost use Rattle.cells.specs.Relation.{agreeing, Agrees};
 
 // The cells of a definition's row, and how many instances there is room for.
 const DEFINITION_WIDTH: usize = 16;
 
-const INSTANCE_ROOM: usize = 32768;
+pub const INSTANCE_ROOM: usize = 32768;
 
-// Where the instances of closed definitions stand, where those of open bodies do, and where the cells end.
-pub const FILED: usize = basics::DEFINITION_LIMIT * DEFINITION_WIDTH;
+// Where the instances begin, and where the cells end.
+pub const ENTRIES: usize = basics::DEFINITION_LIMIT * DEFINITION_WIDTH;
 
-pub const OPEN: usize = FILED + INSTANCE_ROOM;
+pub const SIZE: usize = ENTRIES + INSTANCE_ROOM;
 
-pub const SIZE: usize = OPEN + INSTANCE_ROOM;
-
-// How many places an instance's cell tells apart, and how many rows: no text is so long, and none has more definitions. Above both stands
-// the fingerprint.
-const ENTRY_PLACES: u64 = 131072;
+// How many places an instance's cell tells apart, how many rows, and how many instances of a body: no text is so long, none has more
+// definitions, and no body has room for more. The two links stand above place and row.
+const ENTRY_PLACES: u64 = 1048576;
 
 const ENTRY_ROWS: u64 = basics::DEFINITION_LIMIT as u64;
 
-const ENTRY_PRINT: u64 = ENTRY_PLACES * ENTRY_ROWS;
+const LINK_BOUND: u64 = 262144;
+
+const ENTRY_LINKS: u64 = ENTRY_PLACES * ENTRY_ROWS;
 
 // The numbers of a component: its kind's, and up to six of its own.
 pub struct Values {
@@ -223,7 +219,7 @@ pub fn component_at(cells: &[u64], row: usize) -> Component
 }
 
 fn put_values(cells: &mut [u64], start: usize, v: Values)
-    requires { ⌜ start < filedAt ⌝ }
+    requires { ⌜ start < entriesAt ⌝ }
     ensures { λ _. ⌜ now (cells .exit) ≡ written (now (cells .entry)) start (valueCells v) ⌝ }
 {
     basics::put(cells, start, v.kind);
@@ -253,16 +249,17 @@ pub fn put_row(cells: &mut [u64], number: usize, row: Row)
     basics::put(cells, start + 11, row.below);
 }
 
-// A cell that holds an instance: its place in the text, its type's row, and its name's fingerprint.
-pub fn entry_of(place: usize, row: u64, print: u64) -> u64
-    requires { ⌜ (place < entryPlaces) × (row < definitionLimit) × (print < printBound) ⌝ }
-    ensures { λ r. ⌜ r ≡ entryOf place row print ⌝ }
+// A cell that holds an instance: the place of its name, its type's row, and the instances below it in the tree of its body's names.
+pub fn entry_of(place: usize, row: usize, left: usize, right: usize) -> u64
+    requires { ⌜ (place < entryPlaces) × (row < definitionLimit) × (left < linkBound) × (right < linkBound) ⌝ }
+    ensures { λ r. ⌜ r ≡ entryOf place row left right ⌝ }
 {
-    place as u64 + ENTRY_PLACES * (row + ENTRY_ROWS * print)
+    place as u64
+        + ENTRY_PLACES * (row as u64 + ENTRY_ROWS * (left as u64 + LINK_BOUND * right as u64))
 }
 
-fn place_in(entry: u64) -> usize
-    ensures { λ r. ⌜ r ≡ placeIn entry ⌝ }
+pub fn place_in(entry: u64) -> usize
+    ensures { λ r. ⌜ (r ≡ placeIn entry) × (r < entryPlaces) ⌝ }
 {
     (entry % ENTRY_PLACES) as usize
 }
@@ -273,21 +270,27 @@ pub fn row_in(entry: u64) -> usize
     (entry / ENTRY_PLACES % ENTRY_ROWS) as usize
 }
 
-fn print_in(entry: u64) -> u64
-    ensures { λ r. ⌜ r ≡ printIn entry ⌝ }
+pub fn left_in(entry: u64) -> usize
+    ensures { λ r. ⌜ (r ≡ leftIn entry) × (r < linkBound) ⌝ }
 {
-    entry / ENTRY_PRINT
+    (entry / ENTRY_LINKS % LINK_BOUND) as usize
+}
+
+pub fn right_in(entry: u64) -> usize
+    ensures { λ r. ⌜ (r ≡ rightIn entry) × (r < linkBound) ⌝ }
+{
+    (entry / ENTRY_LINKS / LINK_BOUND) as usize
 }
 
 // The cells of the instances of a row's definition.
 pub fn instances_of(cells: &[u64], row: usize) -> Span
     requires { ⌜ (row < definitionLimit) × (firstIn (now cells) row + countIn (now cells) row ≤ instanceRoom) ⌝ }
-    ensures { λ r. ⌜ (r .from ≡ filedAt + firstIn (now (cells .entry)) row) × (r .to ≡ r .from + countIn (now (cells .entry)) row) ⌝ }
+    ensures { λ r. ⌜ (r .from ≡ entriesAt + firstIn (now (cells .entry)) row) × (r .to ≡ r .from + countIn (now (cells .entry)) row) ⌝ }
 {
     let start = row * DEFINITION_WIDTH;
     let first = basics::cell(cells, start + 7);
     let count = basics::cell(cells, start + 8);
-    let from = FILED + first as usize;
+    let from = ENTRIES + first as usize;
     Span {
         from,
         to: from + count as usize,
@@ -349,83 +352,16 @@ pub fn find_type(text: &[u8], cells: &[u64], head: usize, stop: usize, name: Nam
     Given::Nothing
 }
 
-// Whether this name stands at a place, where an instance begins with its own: the suffixes behind it are not read.
-fn is_named_at(text: &[u8], place: usize, name: Name) -> bool
-    ensures { λ r. ⌜ r ≡ isNamedAs (now (text .entry)) name (nameAt (now (text .entry)) place) ⌝ }
-{
-    match parts::read_name(text, place) {
-        NameReading::Done(other, _) => identifiers::same_name(text, name, other),
-        NameReading::Refused(_) => false,
-    }
-}
-
-// Whether the instance of a cell has this name, whose fingerprint is `print`: the text is looked at only where the fingerprints agree.
-fn is_entry_named(text: &[u8], entry: u64, name: Name, print: u64) -> bool
-    requires { ⌜ print ≡ fingerprint (now text) name ⌝ }
-    ensures { λ r. ⌜ r ≡ isEntryNamed (now (text .entry)) entry name ⌝ }
-{
-    if print_in(entry) != print {
-        return false;
-    }
-    is_named_at(text, place_in(entry), name)
-}
-
-// 1 where a cell has this fingerprint.
-fn agrees(entry: u64, print: u64) -> u64
-    ensures { λ r. ⌜ (r ≡ agreeing (printIn entry) print) × (r ≤ 1) ⌝ }
-{
-    if entry / ENTRY_PRINT == print {
-        return 1;
-    }
-    0
-}
-
-// Whether some cell from one up to another may have this fingerprint: a pass with nothing but a sum in it, so that it is quick.
-fn any_agrees(cells: &[u64], from: usize, to: usize, print: u64) -> bool
-    ensures { λ r. ⌜ Agrees (now (cells .entry)) from to print r ⌝ }
-{
-    if cells.len() < to {
-        return true;
-    }
-    let mut found = 0;
-    let mut i = from;
-    while i < to {
-        found += agrees(cells[i], print);
-        i += 1;
-    }
-    if found == 0 {
-        return false;
-    }
-    true
-}
-
-// Whether a name stands before in a body: among the instances from one cell up to another.
-pub fn is_held(text: &[u8], cells: &[u64], from: usize, to: usize, name: Name) -> bool
-    ensures { λ r. ⌜ r ≡ someNamed (now (text .entry)) (now (cells .entry)) from (to - from) name ⌝ }
-{
-    let print = identifiers::fingerprint_of(text, name);
-    if !any_agrees(cells, from, to, print) {
-        return false;
-    }
-    let mut i = from;
-    while i < to {
-        if is_entry_named(text, basics::cell(cells, i), name, print) {
-            return true;
-        }
-        i += 1;
-    }
-    false
-}
-
-// Moves cells, the first first.
+// Moves cells to higher ones, the last first.
 pub fn move_cells(cells: &mut [u64], from: usize, to: usize, count: usize)
     requires { ⌜ (from + count < entryPlaces) × (to + count < entryPlaces) ⌝ }
     ensures { λ _. ⌜ now (cells .exit) ≡ moved (now (cells .entry)) from to count ⌝ }
 {
-    let mut k = 0;
-    while k < count {
+    let mut left = count;
+    while 0 < left {
+        let k = left - 1;
         let value = basics::cell(cells, from + k);
         basics::put(cells, to + k, value);
-        k += 1;
+        left = k;
     }
 }

@@ -1,6 +1,6 @@
 -- Laws of what is judged at a closing brace, in the form that the proofs use.
-use mathlib.Core.Bool.{Bool, true, false}
-use mathlib.Core.Path.{_≡_, refl, sym, _∙_}
+use mathlib.Core.Bool.{Bool, true, false, _||_}
+use mathlib.Core.Path.{_≡_, refl, sym, ap, _∙_}
 use mathlib.Core.List.{List, [], _∷_, _++_, append-assoc, append-nil}
 use Prim.Native.Nat.{ℕ, suc, _+_, _-_, _*_, _<_, _≤_}
 use native.Mathlib.Numerals.{add-one}
@@ -33,10 +33,11 @@ use Rattle.cells.specs.declared.ChildReading.the-variants as childReading
 use Rattle.cells.proofs.Laws.{child-entry}
 use Rattle.cells.specs.Definitions.{Child, Definition, definitionOf}
 use Rattle.cells.specs.Relation.{IsEntry}
+use Rattle.closing_rules.specs.declared.Broken.{Broken}
 use Rattle.closing_rules.specs.declared.Placed.{Placed}
 use Rattle.closing_rules.specs.declared.Placed.the-variants as placed
 use Rattle.closing_rules.specs.Registers.{placement, bitAbove, withPlaced, fieldsFrom, firstBit, some, overlaps, registerFault, effectFault, isEmpty, closingFault}
-use Rattle.closing_rules.specs.Decoded.{unlessBroken, placedAs, placedRead, placedIn, fieldsInCells, fieldsBetween, topOf, breaksIn, overlapsEarlier, missingFault, closingIn}
+use Rattle.closing_rules.specs.Decoded.{unlessBroken, placedAs, placedRead, placedIn, fieldsInCells, fieldsBetween, topOf, breaksIn, brokenBy, brokenWith, overlapsEarlier, missingFault, closingIn}
 use Rattle.closing_rules.specs.Relation.{HeldBetween, stored-end, stored-on}
 use Rattle.closing_rules.proofs.Overlaps.{overlaps-last, overlaps-kept}
 
@@ -192,6 +193,69 @@ module _ (text t : List ℕ) (from to : ℕ) (first : BitPlace) (probe : Probe) 
           same = rw z (sym (some-next probe p later (sym g ∙ y)) ∙ (rw (fields-on text t next i to h f) at (s .same)));
         }
 
+-- what some field breaks, so far or among those that are left, is what some of all breaks
+some-with : (probe : Probe) (p : Placed) (fs : List FieldAt) → some probe (withPlaced p fs) ≡ (breaksIn probe p || some probe fs)
+unfolding some
+some-with probe (placed.Field f) fs = refl
+some-with probe placed.Other fs = refl
+
+or-moved : (a b c : Bool) → ((a || b) || c) ≡ (a || (b || c))
+or-moved true b c = refl
+or-moved false b c = refl
+
+or-false : (a : Bool) → (a || false) ≡ a
+or-false true = refl
+or-false false = refl
+
+pub broken-made : (b : Broken) (reg : Register) (p : Placed) {x y z u v w : Bool} → x ≡ breaksIn Wide p → y ≡ breaksIn (Outside (reg .width)) p → z ≡ breaksIn (Span (reg .access)) p
+    → u ≡ (b .wide || x) → v ≡ (b .outside || y) → w ≡ (b .split || z) → record { wide = u; outside = v; split = w } ≡ brokenWith b reg p
+broken-made b reg p e f g h i j = rw (h, i, j, e, f, g)
+
+pub record Breaking (text t : List ℕ) (from to : ℕ) (reg : Register) (i : ℕ) (next : BitPlace) (b : Broken) : Type 0 where
+  pub low : next .0 + 64 * (to - i) < sumBound
+  pub wide : (b .wide || some Wide (fieldsInCells text t next i (to - i))) ≡ some Wide (fieldsBetween text t from to)
+  pub outside : (b .outside || some (Outside (reg .width)) (fieldsInCells text t next i (to - i))) ≡ some (Outside (reg .width)) (fieldsBetween text t from to)
+  pub split : (b .split || some (Span (reg .access)) (fieldsInCells text t next i (to - i))) ≡ some (Span (reg .access)) (fieldsBetween text t from to)
+
+module _ (text t : List ℕ) (from to : ℕ) (reg : Register) where
+  pub break-start : to ≤ entryPlaces → Breaking text t from to reg from firstBit (record { wide = false; outside = false; split = false })
+  break-start h = record { low = omega arith; wide = refl; outside = refl; split = refl }
+
+  module _ {i : ℕ} {next : BitPlace} {b : Broken} (s : Breaking text t from to reg i next b) where
+    pub break-fits : next .0 < sumBound
+    break-fits = let l = s .low in omega arith
+
+    pub break-top : {p : Placed} → i < to → p ≡ placedIn text t next (cellOf t i) → topOf p < sumBound
+    break-top h f = let l = s .low in let m = cell-top text t (cellOf t i) next in rw f (omega arith)
+
+    flag-end : (a : Bool) (probe : Probe) → to ≤ i → (a || some probe (fieldsInCells text t next i (to - i))) ≡ some probe (fieldsBetween text t from to) → a ≡ some probe (fieldsBetween text t from to)
+    unfolding some
+    flag-end a probe h e = sym (or-false a) ∙ (rw (fields-none text t next i to h) at e)
+
+    pub break-end : to ≤ i → b ≡ brokenBy reg (fieldsBetween text t from to)
+    break-end h =
+        let w = flag-end (b .wide) Wide h (s .wide) in
+        let o = flag-end (b .outside) (Outside (reg .width)) h (s .outside) in
+        let p = flag-end (b .split) (Span (reg .access)) h (s .split) in
+        rw (← w, ← o, ← p)
+
+    module _ {p : Placed} (h : i < to) (f : p ≡ placedIn text t next (cellOf t i)) where
+      flag-on : (a : Bool) (probe : Probe) → (a || some probe (fieldsInCells text t next i (to - i))) ≡ some probe (fieldsBetween text t from to)
+          → ((a || breaksIn probe p) || some probe (fieldsInCells text t (bitAbove p next) (i + 1) (to - (i + 1)))) ≡ some probe (fieldsBetween text t from to)
+      flag-on a probe e =
+          let later : List FieldAt = fieldsInCells text t (bitAbove p next) (i + 1) (to - (i + 1)) in
+          or-moved a (breaksIn probe p) (some probe later) ∙ ap (λ x. a || x) (sym (some-with probe p later)) ∙ (rw (fields-on text t next i to h f) at e)
+
+      pub break-on : {c : Broken} {n : BitPlace} → c ≡ brokenWith b reg p → n ≡ bitAbove p next → Breaking text t from to reg (i + 1) n c
+      break-on y z =
+          rw (y, z)
+          (record {
+            low = above-fits p next h (rw f (cell-top text t (cellOf t i) next)) (s .low);
+            wide = flag-on (b .wide) Wide (s .wide);
+            outside = flag-on (b .outside) (Outside (reg .width)) (s .outside);
+            split = flag-on (b .split) (Span (reg .access)) (s .split);
+          })
+
 -- a field against the earlier ones
 module _ (p : Placed) (fs : List FieldAt) where
   pub earlier-field : {f : FieldAt} {b : Bool} → p ≡ placed.Field f → b ≡ some (Overlap f) fs → b ≡ overlapsEarlier p fs
@@ -263,34 +327,43 @@ module _ (text t : List ℕ) (from to : ℕ) where
           }
 
 -- 13 to 17
-module _ (fs : List FieldAt) (reg : Register) {a : Bool} (wide : a ≡ some Wide fs) where
-  pub register-wide : a ≡ true → 13 ≡ registerFault reg fs
-  unfolding registerFault
-  register-wide y = rw (← wide, y)
+module _ (fs : List FieldAt) (reg : Register) {b : Broken} (e : b ≡ brokenBy reg fs) where
+  wide-is : some Wide fs ≡ b .wide
+  wide-is = rw e
 
-  module _ (m : a ≡ false) where
+  outside-is : some (Outside (reg .width)) fs ≡ b .outside
+  outside-is = rw e
+
+  split-is : some (Span (reg .access)) fs ≡ b .split
+  split-is = rw e
+
+  pub register-wide : b .wide ≡ true → 13 ≡ registerFault reg fs
+  unfolding registerFault
+  register-wide y = rw (wide-is, y)
+
+  module _ (m : b .wide ≡ false) where
     pub register-access : reg .width < reg .access → 14 ≡ registerFault reg fs
     unfolding registerFault
-    register-access y = rw (← wide, m, lt-ltb (reg .width) (reg .access) y)
+    register-access y = rw (wide-is, m, lt-ltb (reg .width) (reg .access) y)
 
-    module _ {b : Bool} (n : reg .access ≤ reg .width) (outside : b ≡ some (Outside (reg .width)) fs) where
-      pub register-outside : b ≡ true → 15 ≡ registerFault reg fs
+    module _ (n : reg .access ≤ reg .width) where
+      pub register-outside : b .outside ≡ true → 15 ≡ registerFault reg fs
       unfolding registerFault
-      register-outside y = rw (← wide, m, le-ltb (reg .width) (reg .access) n, ← outside, y)
+      register-outside y = rw (wide-is, m, le-ltb (reg .width) (reg .access) n, outside-is, y)
 
-      module _ {c : Bool} (o : b ≡ false) (over : c ≡ overlaps fs) where
+      module _ {c : Bool} (o : b .outside ≡ false) (over : c ≡ overlaps fs) where
         pub register-overlap : c ≡ true → 16 ≡ registerFault reg fs
         unfolding registerFault
-        register-overlap y = rw (← wide, m, le-ltb (reg .width) (reg .access) n, ← outside, o, ← over, y)
+        register-overlap y = rw (wide-is, m, le-ltb (reg .width) (reg .access) n, outside-is, o, ← over, y)
 
-        module _ {e : Bool} (p : c ≡ false) (spans : e ≡ some (Span (reg .access)) fs) where
-          pub register-spans : e ≡ true → 17 ≡ registerFault reg fs
+        module _ (p : c ≡ false) where
+          pub register-spans : b .split ≡ true → 17 ≡ registerFault reg fs
           unfolding registerFault
-          register-spans y = rw (← wide, m, le-ltb (reg .width) (reg .access) n, ← outside, o, ← over, p, ← spans, y)
+          register-spans y = rw (wide-is, m, le-ltb (reg .width) (reg .access) n, outside-is, o, ← over, p, split-is, y)
 
-          pub register-sound : e ≡ false → 0 ≡ registerFault reg fs
+          pub register-sound : b .split ≡ false → 0 ≡ registerFault reg fs
           unfolding registerFault
-          register-sound y = rw (← wide, m, le-ltb (reg .width) (reg .access) n, ← outside, o, ← over, p, ← spans, y)
+          register-sound y = rw (wide-is, m, le-ltb (reg .width) (reg .access) n, outside-is, o, ← over, p, split-is, y)
 
 -- a body at its closing brace
 module _ (text t : List ℕ) (from to : ℕ) where

@@ -1,5 +1,5 @@
 -- What the cells of a body's instances decode to at its closing brace, whatever they hold: the fields of a register, and what is judged.
-use mathlib.Core.Bool.{Bool, true, false}
+use mathlib.Core.Bool.{Bool, true, false, _||_}
 use mathlib.Core.List.{List, []}
 use Prim.Native.Nat.{ℕ, zero, suc, _-_}
 use lib.Dec.{eqb}
@@ -16,7 +16,8 @@ use Rattle.fields.specs.declared.BitPlace.{BitPlace}
 use Rattle.components.specs.declared.Component.{Component}
 use Rattle.components.specs.declared.Component.the-variants as component
 use Rattle.fields.specs.declared.Probe.{Probe}
-use Rattle.fields.specs.declared.Probe.the-variants.{Overlap}
+use Rattle.fields.specs.declared.Probe.the-variants.{Wide, Outside, Overlap, Span}
+use Rattle.fields.specs.declared.Register.{Register}
 use Rattle.cover.specs.Covers.{isNarrow, meetsIn, coverWith}
 use Rattle.cover.specs.declared.Cover.{Cover}
 use Rattle.basics.specs.Slices.{cellOf}
@@ -24,6 +25,7 @@ use Rattle.cells.specs.Cells.{componentIn}
 use Rattle.cells.specs.Decoded.{childIn}
 use Rattle.cells.specs.declared.ChildReading.{ChildReading}
 use Rattle.cells.specs.declared.ChildReading.the-variants as child
+use Rattle.closing_rules.specs.declared.Broken.{Broken}
 use Rattle.closing_rules.specs.declared.Placed.{Placed}
 use Rattle.closing_rules.specs.declared.Placed.the-variants as placed
 use Rattle.closing_rules.specs.Registers.{bitAbove, withPlaced, firstBit, some, registerFault, effectFault}
@@ -68,6 +70,18 @@ topOf placed.Other = 0
 abbrev pub breaksIn : Probe → Placed → Bool
 breaksIn probe (placed.Field f) = breaks probe f
 breaksIn probe placed.Other = false
+
+-- which of 13, 15 and 17 some field of a register breaks; and with one more
+abbrev pub brokenBy : Register → List FieldAt → Broken
+brokenBy r fs = record { wide = some Wide fs; outside = some (Outside (r .width)) fs; split = some (Span (r .access)) fs }
+
+abbrev pub brokenWith : Broken → Register → Placed → Broken
+brokenWith b r p =
+    record {
+      wide = b .wide || breaksIn Wide p;
+      outside = b .outside || breaksIn (Outside (r .width)) p;
+      split = b .split || breaksIn (Span (r .access)) p;
+    }
 
 -- whether a field overlaps one of these, which stand before it
 abbrev pub overlapsEarlier : Placed → List FieldAt → Bool

@@ -11,18 +11,34 @@ use fields::Register;
 use parts::Instance;
 use parts::Kind;
 ghost use mathlib.Core.Path.{_≡_};
-ghost use mathlib.Core.Bool.{true};
+ghost use mathlib.Core.Bool.{true, _||_};
 ghost use Prim.Native.Nat.{_+_, _-_, _*_, _≤_, _<_};
 ghost use Rattle.basics.specs.Limits.{sumBound};
 ghost use Rattle.basics.specs.Slices.{cellOf};
 ghost use Rattle.cells.specs.Cells.{entryPlaces};
 ghost use Rattle.closing_rules.specs.Registers.{bitAbove, some, overlaps, registerFault, effectFault};
-ghost use Rattle.closing_rules.specs.Decoded.{placedAs, placedIn, fieldsInCells, fieldsBetween, topOf, breaksIn, overlapsEarlier, isNarrowIn, meetsPlaced, coverWithPlaced, missingFault, closingIn};
+ghost use Rattle.closing_rules.specs.Decoded.{placedAs, placedIn, fieldsInCells, fieldsBetween, topOf, breaksIn, overlapsEarlier, isNarrowIn, meetsPlaced, coverWithPlaced, brokenWith, brokenBy, missingFault, closingIn};
 
 // A field of a register, or an instance that is none.
 pub enum Placed {
     Field(FieldAt),
     Other,
+}
+
+// Which rules some field of a register breaks: 13, 15, 17.
+pub struct Broken {
+    pub wide: bool,
+    pub outside: bool,
+    pub split: bool,
+}
+
+fn either(a: bool, b: bool) -> bool
+    ensures { λ r. ⌜ r ≡ (a || b) ⌝ }
+{
+    if a {
+        return true;
+    }
+    b
 }
 
 // A field's instance at its place; an instance with unsound suffixes has none.
@@ -139,6 +155,42 @@ fn any_overlap_by_pairs(text: &[u8], cells: &[u64], from: usize, to: usize) -> b
     false
 }
 
+// With one field more.
+fn broken_with(broken: Broken, register: Register, placed: Placed) -> Broken
+    requires { ⌜ topOf placed < sumBound ⌝ }
+    ensures { λ r. ⌜ r ≡ brokenWith broken register placed ⌝ }
+{
+    let wide = breaks_in(Probe::Wide, placed);
+    let outside = breaks_in(Probe::Outside(register.width), placed);
+    let split = breaks_in(Probe::Span(register.access), placed);
+    Broken {
+        wide: either(broken.wide, wide),
+        outside: either(broken.outside, outside),
+        split: either(broken.split, split),
+    }
+}
+
+// Which of 13, 15 and 17 some field of a register breaks; each field is read once for the three.
+fn broken_by(text: &[u8], cells: &[u64], from: usize, to: usize, register: Register) -> Broken
+    requires { ⌜ to ≤ entryPlaces ⌝ }
+    ensures { λ r. ⌜ r ≡ brokenBy register (fieldsBetween (now (text .entry)) (now (cells .entry)) from to) ⌝ }
+{
+    let mut i = from;
+    let mut next = BitPlace(0);
+    let mut broken = Broken {
+        wide: false,
+        outside: false,
+        split: false,
+    };
+    while i < to {
+        let placed = field_in(text, cells, i, next);
+        broken = broken_with(broken, register, placed);
+        next = bit_above(placed, next);
+        i += 1;
+    }
+    broken
+}
+
 // Whether a cover can hold a field's bits.
 fn is_narrow_in(placed: Placed) -> bool
     ensures { λ r. ⌜ r ≡ isNarrowIn placed ⌝ }
@@ -201,27 +253,20 @@ fn register_fault(text: &[u8], cells: &[u64], from: usize, to: usize, register: 
     requires { ⌜ to ≤ entryPlaces ⌝ }
     ensures { λ r. ⌜ r ≡ registerFault register (fieldsBetween (now (text .entry)) (now (cells .entry)) from to) ⌝ }
 {
-    let bottom = BitPlace(0);
-    if any_field(text, cells, from, to, bottom, Probe::Wide) {
+    let broken = broken_by(text, cells, from, to, register);
+    if broken.wide {
         return 13;
     }
     if register.width < register.access {
         return 14;
     }
-    if any_field(
-        text,
-        cells,
-        from,
-        to,
-        bottom,
-        Probe::Outside(register.width),
-    ) {
+    if broken.outside {
         return 15;
     }
     if any_overlap(text, cells, from, to) {
         return 16;
     }
-    if any_field(text, cells, from, to, bottom, Probe::Span(register.access)) {
+    if broken.split {
         return 17;
     }
     0

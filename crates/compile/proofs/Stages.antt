@@ -37,6 +37,8 @@ use Rattle.sizes.specs.declared.Extent.{Extent}
 use Rattle.sizes.specs.Ready.{known, Ready}
 use Rattle.sizes.specs.Shapes.{shapeCells, allShapes}
 use Rattle.sizes.proofs.Laws.{shapes-stored}
+use Rattle.recall.specs.Shelves.{Shelving}
+use Rattle.recall.proofs.Keeping.{shapes-stay}
 use Rattle.map_rules.specs.Whole.{tooMany, tooClose, misplaced, overlapping, mapShapes, mapVisits, mapFault}
 use Rattle.map_walk.specs.declared.Counts.{Counts}
 use Rattle.map_walk.specs.declared.Surveyed.{Surveyed}
@@ -158,9 +160,9 @@ module _ (text t : List ℕ) (e : Extent) (g : FiledIn text t e) where
   pub is-ready : Ready text t e
   is-ready = record { few = g .filed .few; holds = g .filed .holds; sensible = g .filed .sensible .table }
 
-  -- the shapes in the cells
-  pub shaped : {s : List ℕ} (rest : List ℕ) → s ≡ shapeCells (allShapes text t e) ++ rest → Shaped text t s e
-  shaped rest f = record { ready = is-ready; shapes = shapes-stored text t e is-ready rest f }
+  -- the shapes in the cells, and the long instances on the shelves
+  pub shaped : {s u : List ℕ} (rest : List ℕ) → s ≡ shapeCells (allShapes text t e) ++ rest → Shelving text s u → Shaped text t u e
+  shaped rest f k = record { ready = is-ready; shapes = shapes-stay (g .filed .few) (k .stay) (shapes-stored text t e is-ready rest f); kept = k .shelved }
 
   mode-is : modeOf (definitionOf (known text t e) (e .map) .component) ≡ e .mode
   mode-is = sym (g .mode ∙ ap modeOf (g .filed .holds .each (e .map) map-low .component))

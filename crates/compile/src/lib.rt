@@ -12,8 +12,9 @@ ghost use Prim.Native.Nat.{_≤_};
 ghost use lib.ListN.{length};
 ghost use Rattle.basics.specs.Limits.{registerLimit, fieldLimit};
 ghost use Rattle.layout.specs.Layout.{modeOf};
-ghost use Rattle.sizes.specs.Shapes.{shapesSize};
+ghost use Rattle.recall.specs.Shelves.{recallSize};
 ghost use Rattle.map_walk.specs.Runs.{logSize};
+ghost use Rattle.map_walk.specs.Walks.{Shaped};
 ghost use Rattle.rows.specs.Rows.{tables};
 ghost use Rattle.compile.specs.Compiled.{refused, mapped, compiled, answered, lentAfter, compiledNumbers, answeredNumbers};
 ghost use Rattle.compile.specs.Stages.{Filed, FiledIn, Charts, meaningIn, hasRoom};
@@ -60,8 +61,17 @@ fn is_room(registers: usize, paths: usize, fields: usize, labels: usize, counts:
     counts.fields * basics::NAME_WIDTH <= labels
 }
 
-// The first fault of the map by 18 to 21, or how many registers and fields it has. The shapes' cells then hold the shapes of all
-// definitions, and the log what the survey left there: all of the map's registers, but after an 18.
+// What the passes over the map use: the shapes of all definitions, and behind them the instances that are long to read.
+fn prepare(text: &[u8], cells: &[u64], shapes: &mut [u64], extent: Extent)
+    requires { ⌜ FiledIn (now text) (now cells) extent × (recallSize ≤ length (now shapes)) ⌝ }
+    ensures { λ _. ⌜ Shaped (now (text .entry)) (now (cells .entry)) (now (shapes .exit)) extent ⌝ }
+{
+    sizes::fill_shapes(text, cells, shapes, extent);
+    recall::keep_long_instances(text, cells, shapes, extent);
+}
+
+// The first fault of the map by 18 to 21, or how many registers and fields it has. The shapes' cells then hold what `prepare` leaves, and
+// the log what the survey left there: all of the map's registers, but after an 18.
 fn judge_map(
     text: &[u8],
     cells: &[u64],
@@ -69,10 +79,10 @@ fn judge_map(
     log: &mut [u64],
     extent: Extent,
 ) -> Surveyed
-    requires { ⌜ FiledIn (now text) (now cells) extent × (shapesSize ≤ length (now shapes)) × (logSize ≤ length (now log)) ⌝ }
+    requires { ⌜ FiledIn (now text) (now cells) extent × (recallSize ≤ length (now shapes)) × (logSize ≤ length (now log)) ⌝ }
     ensures { λ r. ⌜ Charts (now (text .entry)) (now (cells .entry)) (now (shapes .exit)) (now (log .exit)) extent r ⌝ }
 {
-    sizes::fill_shapes(text, cells, shapes, extent);
+    prepare(text, cells, shapes, extent);
     match map_walk::survey(text, cells, shapes, log, extent) {
         Surveyed::Refused(number, at) => Surveyed::Refused(number, at),
         Surveyed::Done(counts) => {
@@ -140,7 +150,7 @@ fn compile_map(
     ensures answer { λ r. ⌜ r ≡ answered (tables (now (registers .entry)) (now (paths .entry)) (now (fields .entry)) (now (labels .entry))) (mapped (now (text .entry)) (meaningIn (now (text .entry)) (now (cells .entry)) row closed)) ⌝ }
     ensures lent { λ _. ⌜ tables (now (registers .exit)) (now (paths .exit)) (now (fields .exit)) (now (labels .exit)) ≡ lentAfter (tables (now (registers .entry)) (now (paths .entry)) (now (fields .entry)) (now (labels .entry))) (mapped (now (text .entry)) (meaningIn (now (text .entry)) (now (cells .entry)) row closed)) ⌝ }
 {
-    let mut shapes = [0u64; sizes::SHAPES_SIZE];
+    let mut shapes = [0u64; recall::RECALL_SIZE];
     let mut log = [0u64; map_walk::LOG_SIZE];
     let mode = mode_of(cells::component_at(cells, row));
     let extent = Extent {

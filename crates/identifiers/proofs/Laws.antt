@@ -1,14 +1,12 @@
 -- Laws of names, in the form that the proofs use.
-use mathlib.Core.Bool.{Bool, true, false}
-use mathlib.Core.Path.{_≡_, refl, sym, ap, _∙_}
+use mathlib.Core.Path.{_≡_, refl, sym, _∙_}
 use mathlib.Core.List.{List, []}
 use Prim.Native.Nat.{ℕ, _+_, _-_, _*_, _%_, _<_, _≤_}
 use native.Mathlib.Omega.{arith}
 use lib.ListN.{length, drop, getD, take, drop-of-length-le, length-drop}
 use lib.Seq.{take-all}
-use Rattle.chars.proofs.Laws.{drop-next, same-equal}
-use Rattle.parts.specs.declared.Name.{Name}
-use Rattle.identifiers.specs.Names.{bytesOf, sameName, printBound, printFrom, fingerprint}
+use Rattle.chars.proofs.Laws.{drop-next}
+use Rattle.identifiers.specs.Names.{bytesOf, printBound, printFrom}
 
 take-past : (t : List ℕ) (i n : ℕ) → length t ≤ i → take n (drop i t) ≡ []
 take-past t i n h = rw (drop-of-length-le t h) (take-all {A = ℕ} n [] (omega arith))
@@ -46,15 +44,3 @@ module _ (s : List ℕ) (i h : ℕ) {x : ℕ} (at : printFrom h (drop i s) ≡ x
   print-next f e = rw e (rw (drop-next s i f) at at)
 
 pub ruleset prints = (print-end, print-next)
-
--- equal names have one fingerprint
-pub same-print : (t : List ℕ) (a b : Name) → sameName t a b ≡ true → fingerprint t a ≡ fingerprint t b
-unfolding sameName
-same-print t a b e = ap (printFrom 0) (same-equal _ _ e)
-
-pub other-print : (t : List ℕ) (a b : Name) → (fingerprint t a ≡ fingerprint t b → ⊥) → sameName t a b ≡ false
-other-print t a b f = decided (sameName t a b) refl
-  where
-    decided : (r : Bool) → sameName t a b ≡ r → r ≡ false
-    decided true e = absurd (f (same-print t a b e))
-    decided false e = refl

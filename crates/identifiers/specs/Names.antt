@@ -26,6 +26,3 @@ printBound = 2 ^ 32
 unfoldable pub printFrom : ℕ → List ℕ → ℕ
 printFrom h [] = h
 printFrom h (b ∷ s) = printFrom ((h * 16777619 + b) % printBound) s
-
-abbrev pub fingerprint : List ℕ → Name → ℕ
-fingerprint text n = printFrom 0 (bytesOf text (n .start) (n .end))

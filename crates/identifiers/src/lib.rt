@@ -2,7 +2,7 @@
 use parts::Name;
 ghost use mathlib.Core.Path.{_≡_};
 ghost use Prim.Native.Nat.{_+_, _*_, _%_, _<_};
-ghost use Rattle.identifiers.specs.Names.{bytesOf, sameName, printBound, printFrom, fingerprint};
+ghost use Rattle.identifiers.specs.Names.{bytesOf, sameName, printBound, printFrom};
 
 // Above every fingerprint.
 const PRINT_BOUND: u64 = 4294967296;
@@ -39,7 +39,8 @@ fn next_print(print: u64, b: u8) -> u64
     (print * 16777619 + b as u64) % PRINT_BOUND
 }
 
-fn print_of(bytes: &[u8]) -> u64
+// A number of 32 bits that equal byte strings share.
+pub fn print_of(bytes: &[u8]) -> u64
     ensures { λ r. ⌜ (r ≡ printFrom 0 (now (bytes .entry))) × (r < printBound) ⌝ }
 {
     let mut print = 0;
@@ -49,11 +50,4 @@ fn print_of(bytes: &[u8]) -> u64
         i += 1;
     }
     print
-}
-
-// A number of 32 bits that equal names share.
-pub fn fingerprint_of(text: &[u8], name: Name) -> u64
-    ensures { λ r. ⌜ (r ≡ fingerprint (now (text .entry)) name) × (r < printBound) ⌝ }
-{
-    print_of(bytes_of(text, name.start, name.end))
 }

@@ -6,3 +6,4 @@ pub mod Suffix
 pub mod Worked
 pub mod Left
 pub mod Numbers
+pub mod Own

@@ -29,7 +29,7 @@ unfolding blanks
 blanks-blank p b [] e = rw e
 blanks-blank p b (c ∷ s) e = rw e
 
-blanks-word : (p b : ℕ) (s : List ℕ) → isBlank b ≡ false → eqb b 47 ≡ false → blanks p (b ∷ s) ≡ At p
+pub blanks-word : (p b : ℕ) (s : List ℕ) → isBlank b ≡ false → eqb b 47 ≡ false → blanks p (b ∷ s) ≡ At p
 unfolding blanks
 blanks-word p b [] e f = rw e
 blanks-word p b (c ∷ s) e f = rw (e, f)

@@ -18,7 +18,7 @@ use Rattle.basics.specs.declared.Given.{Given}
 use Rattle.components.specs.Components.{kindOf}
 use Rattle.fields.specs.declared.Offset.{Offset}
 use Rattle.basics.specs.Slices.{cellOf}
-use Rattle.cells.specs.Cells.{filedAt, firstIn, countIn, openAt}
+use Rattle.cells.specs.Cells.{entriesAt, firstIn, countIn, size}
 use Rattle.cells.specs.Definitions.{Child, definitionOf}
 use Rattle.cells.specs.Decoded.{childIn}
 use Rattle.cells.specs.declared.ChildReading.{ChildReading}
@@ -130,11 +130,11 @@ pub record Walking (text t before : List ℕ) (e : Extent) (levels row : ℕ) (a
   pub each : (path : List PathStep) (address : Offset) → Trails trail path → base ≡ cutOffset address
       → Onto (known text t e) (allShapes text t e) before start (walkOf text t e levels a path address bottom (bodyOf text t e row)) log tally (walkOf text t e levels a path address behind rest)
 
-pub span-low : (text t : List ℕ) {s : List ℕ} {e : Extent} (row : ℕ) {from to : ℕ} → Shaped text t s e → row < e .rows → (from ≡ filedAt + firstIn t row) × (to ≡ from + countIn t row) → to ≤ openAt
+pub span-low : (text t : List ℕ) {s : List ℕ} {e : Extent} (row : ℕ) {from to : ℕ} → Shaped text t s e → row < e .rows → (from ≡ entriesAt + firstIn t row) × (to ≡ from + countIn t row) → to ≤ size
 span-low text t {s} {e} row sh low span = omega (arith, span .0, span .1, ready-within text t e row (sh .ready) low)
 
 module _ (text t before : List ℕ) (e : Extent) (levels row : ℕ) (a : Given) (base : Offset) (trail : Trail) (start : Tally) where
-  pub walking-start : {s : List ℕ} {from to : ℕ} → Shaped text t s e → row < e .rows → GroupRow t row a → Small start → (from ≡ filedAt + firstIn t row) × (to ≡ from + countIn t row)
+  pub walking-start : {s : List ℕ} {from to : ℕ} → Shaped text t s e → row < e .rows → GroupRow t row a → Small start → (from ≡ entriesAt + firstIn t row) × (to ≡ from + countIn t row)
       → Walking text t before e levels row a base trail start to from (record { 0 = 0 }) start before
   walking-start {s} {from} {to} sh low g small span =
       record {

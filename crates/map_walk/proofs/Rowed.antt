@@ -14,7 +14,7 @@ use Rattle.fields.specs.declared.Register.{Register}
 use Rattle.components.specs.declared.Component.{Component}
 use Rattle.components.specs.declared.Component.the-variants as component
 use Rattle.basics.specs.Slices.{written}
-use Rattle.cells.specs.Cells.{filedAt, componentIn, firstIn, countIn, instanceRoom}
+use Rattle.cells.specs.Cells.{entriesAt, componentIn, firstIn, countIn, instanceRoom}
 use Rattle.cells.specs.Definitions.{Child, definitionOf}
 use Rattle.definition_laws.specs.Sensible.{ValuesFit, register-fits}
 use Rattle.capped.specs.Offsets.{cap}
@@ -75,7 +75,7 @@ pub shaped-span : (text t s : List ℕ) (e : Extent) (row : ℕ) → Shaped text
 shaped-span text t s e row sh low = ready-span text t e row (sh .ready) low
 
 module _ (text t s : List ℕ) (e : Extent) (x : Element) (tally : Tally) (sh : Shaped text t s e) (low : x .row < e .rows) (small : Small tally) where
-  module _ {from to : ℕ} (span : (from ≡ filedAt + firstIn t (x .row)) × (to ≡ from + countIn t (x .row))) where
+  module _ {from to : ℕ} (span : (from ≡ entriesAt + firstIn t (x .row)) × (to ≡ from + countIn t (x .row))) where
     fields-same : tally .fields + (to - from) ≡ tally .fields + length (definitionOf (known text t e) (x .row) .instances)
     fields-same = omega (arith, span .1, ready-count text t e (x .row) (sh .ready) low)
 

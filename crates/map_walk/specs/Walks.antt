@@ -26,6 +26,7 @@ use Rattle.layout.specs.Layout.{bottom, shapeAt, elements, laidFrom, cutOffset}
 use Rattle.sizes.specs.declared.Extent.{Extent}
 use Rattle.sizes.specs.Ready.{known, Ready}
 use Rattle.sizes.specs.Shapes.{ShapesIn, allShapes}
+use Rattle.recall.specs.Shelves.{Shelved}
 use Rattle.basics.specs.Limits.{nestLimit, registerLimit, fieldLimit, addressEnd}
 use Rattle.map_rules.specs.Visits.{PathStep, Visit, elementVisits, childVisits, visitsIn}
 use Rattle.map_walk.specs.declared.Trail.{Trail}
@@ -41,10 +42,11 @@ use Rattle.map_walk.specs.declared.Walked.the-variants as walked
 use Rattle.rows.specs.Rows.{padded, indexCode}
 use Rattle.map_walk.specs.Runs.{nothingTallied, stepCells, trailWidth, logWidth, run, logged}
 
--- cells that hold definitions, with their shapes
+-- cells that hold definitions, with their shapes, and with long instances on the shelves
 pub record Shaped (text t s : List ℕ) (e : Extent) : Type 0 where
   pub ready : Ready text t e
   pub shapes : ShapesIn s (e .rows) (allShapes text t e)
+  pub kept : Shelved text s
 
 -- a body whose definition the cells hold, at a place where the walk may go on
 pub record SiteFits (e : Extent) (site : Site) : Type 0 where

@@ -320,7 +320,7 @@ fn walk_children(
     let mut end = Offset(0);
     let mut tally = start;
     while i < span.to {
-        match cells::child_at(text, cells, i) {
+        match recall::child_at(text, cells, shapes, i) {
             ChildReading::Refused(_, _) => {
                 // never so: the cells hold readable instances
                 return Walked::Done(tally);

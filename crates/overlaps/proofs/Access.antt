@@ -1,18 +1,20 @@
 -- Laws of the access of a register's fields, in the form that the proofs use.
 use mathlib.Core.Bool.{Bool, true, false, _&&_, not}
-use mathlib.Core.Path.{_≡_, refl, sym, ap, _∙_}
+use mathlib.Core.Path.{_≡_, refl, sym, ap, ap₂, _∙_}
 use mathlib.Core.List.{List, [], _∷_}
 use Prim.Native.Nat.{ℕ, suc, _+_, _<_, _≤_}
 use native.Mathlib.Omega.{arith}
 use lib.Dec.{eqb}
 use lib.ListN.{length}
-use borrow.Author.Tests.{not-true, not-false}
+use borrow.Author.Tests.{eqb-true, not-true, not-false}
 use Rattle.parts.specs.declared.Instance.{Instance}
+use Rattle.parts.specs.declared.Kind.the-variants as kind
 use Rattle.fields.specs.Codes.{accessCode}
 use Rattle.fields.specs.declared.AccessRight.the-variants as access
 use Rattle.basics.specs.Limits.{definitionLimit}
 use Rattle.basics.specs.declared.Given.{Given}
 use Rattle.components.specs.Fields.{fieldAt}
+use Rattle.components.specs.Components.{kindOf}
 use Rattle.fields.specs.declared.BitPlace.{BitPlace}
 use Rattle.fields.specs.declared.FieldType.{FieldType}
 use Rattle.fields.specs.declared.FieldAt.{FieldAt}
@@ -20,16 +22,18 @@ use Rattle.fields.specs.declared.Register.{Register}
 use Rattle.components.specs.declared.Component.{Component}
 use Rattle.components.specs.declared.Component.the-variants as component
 use Rattle.basics.specs.Slices.{cellOf}
-use Rattle.cells.specs.Cells.{filedAt, componentIn, firstIn, countIn, rowIn}
+use Rattle.cells.specs.Cells.{entriesAt, componentIn, firstIn, countIn, rowIn}
 use Rattle.cells.specs.Definitions.{Child, Definition, definitionOf}
 use Rattle.cells.specs.Relation.{Block}
-use Rattle.closing_rules.specs.Registers.{placement, bitAbove, withPlaced, fieldsFrom, firstBit}
-use Rattle.definition_laws.specs.Sensible.{ChildrenFit}
+use Rattle.closing_rules.specs.Registers.{placement, bitAbove, withPlaced, fieldsFrom, firstBit, fieldsOf, closingFault}
+use Rattle.scopes.specs.Places.{mayHold}
+use Rattle.scopes.specs.declared.Enclosing.the-variants.{Inside}
+use Rattle.definition_laws.specs.Sensible.{ChildrenFit, children-none, children-more}
 use Rattle.sizes.specs.declared.Extent.{Extent}
 use Rattle.sizes.specs.Ready.{known, Ready}
 use Rattle.sizes.proofs.Rows.{RowFits}
 use Rattle.sizes.proofs.Laws.{ready-is-row, ready-row, ready-block, ready-count, Ahead, ahead-of, none-left}
-use Rattle.map_rules.specs.Whole.{everyAccess, hasAccess, isPair}
+use Rattle.map_rules.specs.Whole.{everyAccess, hasAccess}
 use Rattle.overlaps.specs.Charted.{hasIn}
 
 -- a component's access
@@ -79,7 +83,7 @@ pub record Left (text t : List ℕ) (e : Extent) (row a to i : ℕ) : Type 0 whe
 pub record Asking (text t : List ℕ) (row a to i : ℕ) : Type 0 where
   pub each : (e : Extent) → Ready text t e → row < e .rows → Left text t e row a to i
 
-pub asking-start : (text t : List ℕ) (row a : ℕ) {from to : ℕ} → from ≡ filedAt + firstIn t row → to ≡ from + countIn t row → Asking text t row a to from
+pub asking-start : (text t : List ℕ) (row a : ℕ) {from to : ℕ} → from ≡ entriesAt + firstIn t row → to ≡ from + countIn t row → Asking text t row a to from
 asking-start text t row a p q = record {
   each = λ e ready low.
       let f : RowFits (e .mode) (known text t e) row = ready-row text t e row ready low in
@@ -145,16 +149,50 @@ module _ (text t : List ℕ) (row a : ℕ) {to i : ℕ} (s : Asking text t row a
     pub asking-next : not r ≡ false → Asking text t row a to (i + 1)
     asking-next y = record { each = λ e ready low. left-next e ready low y }
 
--- one read-only and one write-only
-module _ (table : List Definition) (reader writer : ℕ) {k : ℕ} {r : Bool} (c : k ≡ accessCode access.R) (e : r ≡ hasAccess table k reader) where
-  is-reader : r ≡ hasAccess table (accessCode access.R) reader
-  is-reader = e ∙ ap (λ (n : ℕ). hasAccess table n reader) c
+-- ---- a register has a field, and no field is both only read and only written: so no register is both read-only and write-only
 
-  pub pair-no : not r ≡ true → false ≡ isPair table reader writer
-  unfolding isPair
-  pair-no y = ap (λ (z : Bool). z && hasAccess table (accessCode access.W) writer) (sym (not-true r y) ∙ is-reader)
+one-access : (n : ℕ) (x y : Bool) → ((eqb n (accessCode access.R) && x) && (eqb n (accessCode access.W) && y)) ≡ false
+one-access n x y = by (eqb n (accessCode access.R)) refl (eqb n (accessCode access.W)) refl x
+  where
+    by : (a : Bool) → eqb n (accessCode access.R) ≡ a → (b : Bool) → eqb n (accessCode access.W) ≡ b → (x : Bool)
+        → ((a && x) && (b && y)) ≡ false
+    by false e b f x = refl
+    by true e false f true = refl
+    by true e false f false = refl
+    by true e true f x =
+        let z : n ≡ accessCode access.R = eqb-true n (accessCode access.R) e in
+        let w : n ≡ accessCode access.W = eqb-true n (accessCode access.W) f in
+        absurd (omega arith)
 
-  pub pair-yes : {m : ℕ} {s : Bool} → not r ≡ false → m ≡ accessCode access.W → s ≡ hasAccess table m writer → s ≡ isPair table reader writer
-  unfolding isPair
-  pair-yes y d f =
-      f ∙ ap (λ (n : ℕ). hasAccess table n writer) d ∙ ap (λ (z : Bool). z && hasAccess table (accessCode access.W) writer) (sym (not-false r y) ∙ is-reader)
+module _ (x y : Bool) where
+  component-once : (c : Component) → mayHold (Inside kind.Reg) (kindOf c) ≡ true
+      → ((hasIn (accessCode access.R) c && x) && (hasIn (accessCode access.W) c && y)) ≡ false
+  unfolding mayHold
+  component-once (component.Field f) h = one-access (f .sw) x y
+  component-once (component.Register r) h = absurd (let z : _≡_ {A = ℕ} 0 1 = cc in omega arith)
+  component-once (component.Regfile a) h = absurd (let z : _≡_ {A = ℕ} 0 1 = cc in omega arith)
+  component-once (component.Addrmap a m) h = absurd (let z : _≡_ {A = ℕ} 0 1 = cc in omega arith)
+
+body-once : (table before : List Definition) (r : Register) (cs : List Child)
+    → ((k : ℕ) → k < length before → definitionOf before k ≡ definitionOf table k)
+    → ChildrenFit before (component.Register r) cs → closingFault before (component.Register r) cs ≡ 0
+    → (everyAccess (accessCode access.R) (fieldsOf table cs) && everyAccess (accessCode access.W) (fieldsOf table cs)) ≡ false
+unfolding closingFault
+body-once table before r [] same children-none f = absurd (omega arith)
+body-once table before r (c ∷ cs) same (children-more p ps) f =
+    let d : Component = definitionOf table (c .type) .component in
+    let e : definitionOf before (c .type) .component ≡ d = ap (λ (x : Definition). x .component) (same (c .type) (p .before)) in
+    let others : List FieldAt = fieldsFrom table (bitAbove (placement d firstBit (c .instance)) firstBit) cs in
+    ap₂ _&&_ (every-more (accessCode access.R) table firstBit c cs) (every-more (accessCode access.W) table firstBit c cs)
+    ∙ component-once (everyAccess (accessCode access.R) others) (everyAccess (accessCode access.W) others) d (rw e at (p .held))
+
+pub register-once : (text t : List ℕ) (e : Extent) (row : ℕ) {r : Register} → Ready text t e → row < e .rows
+    → definitionOf (known text t e) row .component ≡ component.Register r
+    → (hasAccess (known text t e) (accessCode access.R) row && hasAccess (known text t e) (accessCode access.W) row) ≡ false
+register-once text t e row {r} ready low k =
+    let f : RowFits (e .mode) (known text t e) row = ready-row text t e row ready low in
+    let n = f .count in
+    body-once (known text t e) (f .before) r (definitionOf (known text t e) row .instances)
+    (λ j h. f .rows j (omega arith))
+    (rw k at (f .fits .children))
+    (rw k at (f .fits .sound))

@@ -1,4 +1,5 @@
-pub mod Visits
 pub mod Access
+pub mod Visits
 pub mod Overlaps
+pub mod Sweeps
 pub mod Plots

@@ -1,28 +1,22 @@
--- Registers alone decide 21, and one after another.
-use mathlib.Core.Bool.{Bool, true, false, _||_, _&&_, not}
-use mathlib.Core.Path.{_≡_, refl, sym, ap, subst, _∙_}
+-- Registers alone decide 21, one after another: the fault is that of the first that meets an earlier one.
+use mathlib.Core.Bool.{Bool, true, false, _||_, _&&_}
+use mathlib.Core.Path.{_≡_, refl, sym, ap, ap₂, _∙_}
 use mathlib.Core.List.{List, [], _∷_, _++_, append-nil}
-use Prim.Native.Nat.{ℕ, suc, _+_, _<_, _≤_}
+use Prim.Native.Nat.{ℕ, zero, suc, _+_, _<_, _≤_}
 use native.Mathlib.Numerals.{add-one}
 use native.Mathlib.Omega.{arith}
-use lib.Dec.{ltb}
 use lib.ListN.{length, take, drop, drop-of-length-le}
 use lib.Seq.{take-suc, drop-cons}
-use borrow.Author.Tests.{le-ltb}
-use Rattle.basics.specs.All.{all-none, all-more}
 use Rattle.basics.specs.Choice.{if_then_else_}
 use Rattle.basics.specs.declared.Fault.{Fault}
 use Rattle.basics.specs.declared.Fault.the-variants.{None, Refused}
+use Rattle.orders.specs.Unique.{meets, firstFrom, firstMeeting}
+use Rattle.orders.proofs.Unique.{meets-here, meets-next, meets-none, first-here, first-next, first-none}
 use Rattle.cells.specs.Definitions.{Definition}
-use Rattle.layout.specs.Layout.{shapeAt}
 use Rattle.layout.specs.declared.Shape.{Shape}
-use Rattle.capped.specs.Offsets.{larger}
 use Rattle.map_rules.specs.Visits.{Visit}
-use Rattle.map_rules.specs.Whole.{isRegisterVisit, isSharedLawfully, overlapRegisters, overlapsOne, overlapping, registersAmong}
+use Rattle.map_rules.specs.Whole.{isRegisterVisit, overlapRegisters, overlapsOne, overlapping, registersAmong}
 use Rattle.map_walk.specs.Walks.{visitAt, noVisit}
-use Rattle.overlaps.specs.Charted.{EndBy}
-use Rattle.basics.proofs.All.{all-append, all-map}
-use Rattle.capped.proofs.Laws.{larger-first, larger-second}
 
 -- the registers among some elements, with one more before them or behind them
 module _ (table : List Definition) (u : Visit) (us : List Visit) where
@@ -38,7 +32,7 @@ among-none : (table : List Definition) → registersAmong table [] ≡ []
 unfolding registersAmong
 among-none table = refl
 
-pub among-append : (table : List Definition) (us vs : List Visit) → registersAmong table (us ++ vs) ≡ registersAmong table us ++ registersAmong table vs
+among-append : (table : List Definition) (us vs : List Visit) → registersAmong table (us ++ vs) ≡ registersAmong table us ++ registersAmong table vs
 among-append table [] vs = ap (λ (l : List Visit). l ++ registersAmong table vs) (sym (among-none table))
 among-append table (u ∷ us) vs = by (isRegisterVisit table u) refl (among-append table us vs)
   where
@@ -61,7 +55,7 @@ module _ (table : List Definition) (earlier : List Visit) (v : Visit) where
 
 -- one element against earlier ones
 module _ (table : List Definition) (shapes : List Shape) (v u : Visit) (us : List Visit) where
-  pub one-register : isRegisterVisit table u ≡ true → overlapsOne table shapes v (u ∷ us) ≡ (overlapRegisters table shapes v u || overlapsOne table shapes v us)
+  one-register : isRegisterVisit table u ≡ true → overlapsOne table shapes v (u ∷ us) ≡ (overlapRegisters table shapes v u || overlapsOne table shapes v us)
   unfolding overlapsOne
   one-register y = ap (λ (b : Bool). (b && overlapRegisters table shapes v u) || overlapsOne table shapes v us) y
 
@@ -69,11 +63,12 @@ module _ (table : List Definition) (shapes : List Shape) (v u : Visit) (us : Lis
   unfolding overlapsOne
   one-other y = ap (λ (b : Bool). (b && overlapRegisters table shapes v u) || overlapsOne table shapes v us) y
 
-pub one-none : (table : List Definition) (shapes : List Shape) (v : Visit) → overlapsOne table shapes v [] ≡ false
+one-none : (table : List Definition) (shapes : List Shape) (v : Visit) → overlapsOne table shapes v [] ≡ false
 unfolding overlapsOne
 one-none table shapes v = refl
 
-pub one-among : (table : List Definition) (shapes : List Shape) (v : Visit) (us : List Visit) → overlapsOne table shapes v us ≡ overlapsOne table shapes v (registersAmong table us)
+one-among : (table : List Definition) (shapes : List Shape) (v : Visit) (us : List Visit)
+    → overlapsOne table shapes v us ≡ overlapsOne table shapes v (registersAmong table us)
 one-among table shapes v [] = ap (overlapsOne table shapes v) (sym (among-none table))
 one-among table shapes v (u ∷ us) = by (isRegisterVisit table u) refl (one-among table shapes v us)
   where
@@ -84,31 +79,27 @@ one-among table shapes v (u ∷ us) = by (isRegisterVisit table u) refl (one-amo
         ∙ ap (overlapsOne table shapes v) (sym (among-register table u us y))
     by false y h = one-other table shapes v u us y ∙ h ∙ ap (overlapsOne table shapes v) (sym (among-other table u us y))
 
--- a register that stands above all earlier ones overlaps none of them
-above-register : (table : List Definition) (shapes : List Shape) (v u : Visit) → u .address .0 + shapeAt shapes (u .type) .size ≤ v .address .0 → overlapRegisters table shapes v u ≡ false
-unfolding overlapRegisters
-above-register table shapes v u h =
-    ap (λ (b : Bool). (b && ltb (u .address .0) (v .address .0 + shapeAt shapes (v .type) .size)) && not (isSharedLawfully table (v .type) (u .type)))
-    (le-ltb (v .address .0) (u .address .0 + shapeAt shapes (u .type) .size) h)
+pub or-true : (x : Bool) → (x || true) ≡ true
+or-true true = refl
+or-true false = refl
 
-pub one-above : (table : List Definition) (shapes : List Shape) (v : Visit) {top : ℕ} {us : List Visit} → top ≤ v .address .0 → EndBy shapes top us → overlapsOne table shapes v us ≡ false
-one-above table shapes v h all-none = one-none table shapes v
-one-above table shapes v {top = top} h (all-more {x = u} {xs = us} p a) = by (isRegisterVisit table u) refl (one-above table shapes v h a)
-  where
-    by : (b : Bool) → isRegisterVisit table u ≡ b → overlapsOne table shapes v us ≡ false → overlapsOne table shapes v (u ∷ us) ≡ false
-    by true y f =
-        one-register table shapes v u us y ∙ ap (λ (b : Bool). b || overlapsOne table shapes v us) (above-register table shapes v u (omega (arith, p, h))) ∙ f
-    by false y f = one-other table shapes v u us y ∙ f
+-- one element against earlier ones and one more behind them
+module _ (table : List Definition) (shapes : List Shape) (v u : Visit) where
+  last-hit : (us : List Visit) → isRegisterVisit table u ≡ true → overlapRegisters table shapes v u ≡ true
+      → overlapsOne table shapes v (us ++ (u ∷ [])) ≡ true
+  unfolding overlapsOne
+  last-hit [] y z = ap₂ (λ (a b : Bool). (a && b) || false) y z
+  last-hit (w ∷ us) y z =
+      let b : Bool = isRegisterVisit table w && overlapRegisters table shapes v w in
+      ap (λ (x : Bool). b || x) (last-hit us y z) ∙ or-true b
 
--- where registers end, with one more
-ends-raised : (shapes : List Shape) (top end : ℕ) {us : List Visit} → EndBy shapes top us → top ≤ end → EndBy shapes end us
-ends-raised shapes top end a h = all-map (λ u p. omega (arith, p, h)) a
-
-pub ends-next : (shapes : List Shape) (vs : List Visit) (i top end : ℕ) → i < length vs → EndBy shapes top (take i vs) → visitAt vs i .address .0 + shapeAt shapes (visitAt vs i .type) .size ≤ end
-    → EndBy shapes (larger top end) (take (i + 1) vs)
-ends-next shapes vs i top end h a p =
-    subst (EndBy shapes (larger top end)) (sym (ap (λ (n : ℕ). take n vs) (add-one i) ∙ take-suc vs i noVisit h))
-    (all-append (ends-raised shapes top (larger top end) a (larger-first top end)) (all-more (omega (arith, p, larger-second top end)) all-none))
+  last-not : (us : List Visit) → isRegisterVisit table u ≡ true → overlapRegisters table shapes v u ≡ false
+      → overlapsOne table shapes v (us ++ (u ∷ [])) ≡ overlapsOne table shapes v us
+  unfolding overlapsOne
+  last-not [] y z = ap₂ (λ (a b : Bool). (a && b) || false) y z
+  last-not (w ∷ us) y z =
+      let b : Bool = isRegisterVisit table w && overlapRegisters table shapes v w in
+      ap (λ (x : Bool). b || x) (last-not us y z)
 
 -- elements one after another
 module _ (table : List Definition) (shapes : List Shape) (earlier : List Visit) (v : Visit) (vs : List Visit) where
@@ -153,7 +144,7 @@ registers-decide table shapes vs = overlapping-among table shapes [] vs ∙ ap (
 
 -- registers from the i-th on
 module _ (table : List Definition) (shapes : List Shape) (vs : List Visit) (i : ℕ) where
-  pub from-end : length vs ≤ i → overlapping table shapes (take i vs) (drop i vs) ≡ None
+  from-end : length vs ≤ i → overlapping table shapes (take i vs) (drop i vs) ≡ None
   from-end h = ap (overlapping table shapes (take i vs)) (drop-of-length-le vs h) ∙ next-none table shapes (take i vs)
 
   module _ (h : i < length vs) (y : isRegisterVisit table (visitAt vs i) ≡ true) where
@@ -167,10 +158,75 @@ module _ (table : List Definition) (shapes : List Shape) (vs : List Visit) (i : 
         ∙ ap (λ (l : List Visit). if b then f else overlapping table shapes l (drop (suc i) vs)) (sym (take-suc vs i noVisit h))
         ∙ ap (λ (n : ℕ). if b then f else overlapping table shapes (take n vs) (drop n vs)) (sym (add-one i))
 
-    pub from-hit : overlapsOne table shapes (visitAt vs i) (take i vs) ≡ true → overlapping table shapes (take i vs) (drop i vs) ≡ Refused 21 (visitAt vs i .name .start)
+    from-hit : overlapsOne table shapes (visitAt vs i) (take i vs) ≡ true → overlapping table shapes (take i vs) (drop i vs) ≡ Refused 21 (visitAt vs i .name .start)
     from-hit z =
         from-here ∙ ap (λ (b : Bool). if b then Refused 21 (visitAt vs i .name .start) else overlapping table shapes (take (i + 1) vs) (drop (i + 1) vs)) z
 
-    pub from-on : overlapsOne table shapes (visitAt vs i) (take i vs) ≡ false → overlapping table shapes (take i vs) (drop i vs) ≡ overlapping table shapes (take (i + 1) vs) (drop (i + 1) vs)
+    from-on : overlapsOne table shapes (visitAt vs i) (take i vs) ≡ false → overlapping table shapes (take i vs) (drop i vs) ≡ overlapping table shapes (take (i + 1) vs) (drop (i + 1) vs)
     from-on z =
         from-here ∙ ap (λ (b : Bool). if b then Refused 21 (visitAt vs i .name .start) else overlapping table shapes (take (i + 1) vs) (drop (i + 1) vs)) z
+
+-- ---- the first register that meets an earlier one
+
+-- 21 where the r-th register is the first that meets an earlier one; none where it is behind them all
+pub record FaultOf (vs : List Visit) (r : ℕ) (f : Fault) : Type 0 where
+  pub none : length vs ≤ r → f ≡ None
+  pub refused : r < length vs → f ≡ Refused 21 (visitAt vs r .name .start)
+
+-- `same` says of two registers whether they overlap
+pub record Agrees (table : List Definition) (shapes : List Shape) (vs : List Visit) (same : ℕ → ℕ → Bool) : Type 0 where
+  pub registers : (i : ℕ) → i < length vs → isRegisterVisit table (visitAt vs i) ≡ true
+  pub pairs : (i j : ℕ) → i < length vs → j < length vs → same i j ≡ overlapRegisters table shapes (visitAt vs j) (visitAt vs i)
+
+module _ (table : List Definition) (shapes : List Shape) (vs : List Visit) {same : ℕ → ℕ → Bool} (a : Agrees table shapes vs same) where
+  one-meets : (j k : ℕ) → k ≤ j → j < length vs → overlapsOne table shapes (visitAt vs j) (take k vs) ≡ meets same j k
+  one-meets j zero h l = one-none table shapes (visitAt vs j) ∙ sym (meets-none same j)
+  one-meets j (suc k) h l = by (same k j) refl (one-meets j k (omega arith) l)
+    where
+      v : Visit
+      v = visitAt vs j
+
+      u : Visit
+      u = visitAt vs k
+
+      y : isRegisterVisit table (visitAt vs k) ≡ true
+      y = a .registers k (omega arith)
+
+      z : overlapsOne table shapes v (take (suc k) vs) ≡ overlapsOne table shapes v (take k vs ++ (u ∷ []))
+      z = ap (overlapsOne table shapes v) (take-suc vs k noVisit (omega arith))
+
+      pair : {b : Bool} → same k j ≡ b → overlapRegisters table shapes v u ≡ b
+      pair e = sym (a .pairs k j (omega arith) l) ∙ e
+
+      by : (b : Bool) → same k j ≡ b → overlapsOne table shapes v (take k vs) ≡ meets same j k
+          → overlapsOne table shapes v (take (suc k) vs) ≡ meets same j (suc k)
+      by true e f = z ∙ last-hit table shapes v u (take k vs) y (pair e) ∙ sym (meets-here same j k e)
+      by false e f = z ∙ last-not table shapes v u (take k vs) y (pair e) ∙ f ∙ sym (meets-next same j k e)
+
+  -- 21 of the registers from the i-th on
+  abbrev fault : ℕ → Fault
+  fault i = overlapping table shapes (take i vs) (drop i vs)
+
+  fault-from : (count i : ℕ) → i + count ≡ length vs → FaultOf vs (firstFrom same i count) (fault i)
+  fault-from zero i e =
+      rw (first-none same i) record { none = λ h. from-end table shapes vs i (omega arith); refused = λ h. absurd (omega arith) }
+  fault-from (suc count) i e = by (meets same i i) refl (fault-from count (i + 1) (omega arith))
+    where
+      h : i < length vs
+      h = omega arith
+
+      by : (b : Bool) → meets same i i ≡ b → FaultOf vs (firstFrom same (i + 1) count) (fault (i + 1))
+          → FaultOf vs (firstFrom same i (suc count)) (fault i)
+      by true z f =
+          rw (first-here same i count z)
+          record {
+            none = λ l. absurd (omega (arith, h));
+            refused = λ l. from-hit table shapes vs i h (a .registers i h) (one-meets i i (omega arith) h ∙ z);
+          }
+      by false z f =
+          rw (first-next same i count z, from-on table shapes vs i h (a .registers i h) (one-meets i i (omega arith) h ∙ z)) f
+
+  -- 21 of the registers is that of the first that meets an earlier one
+  pub first-fault : FaultOf vs (firstMeeting same (length vs)) (overlapping table shapes [] vs)
+  unfolding firstMeeting
+  first-fault = fault-from (length vs) 0 (omega arith)

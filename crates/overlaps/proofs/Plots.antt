@@ -1,35 +1,42 @@
--- Laws of the log's registers, in the form that the proofs use.
+-- Laws of the log's registers, in the form that the proofs use: their spans say what the map's registers say.
 use mathlib.Core.Bool.{Bool, true, false, _||_, _&&_, not}
 use mathlib.Core.Path.{_≡_, refl, sym, ap, _∙_}
-use mathlib.Core.List.{List, [], _∷_}
-use Prim.Native.Nat.{ℕ, suc, _+_, _-_, _*_, _^_, _<_, _≤_}
-use native.Mathlib.Numerals.{add-one}
+use mathlib.Core.List.{List, []}
+use Prim.Native.Nat.{ℕ, _+_, _-_, _*_, _^_, _<_, _≤_}
 use native.Mathlib.Omega.{arith}
+use native.Mathlib.Decide.{decLt}
 use lib.Dec.{ltb}
-use lib.ListN.{length, take, drop}
-use lib.Seq.{slice-cons, slice-empty}
-use borrow.Author.Tests.{lt-ltb, le-ltb}
-use Rattle.basics.specs.Limits.{definitionLimit, nestLimit, registerLimit}
+use lib.ListN.{length, getD, set}
+use lib.Seq.{getD-set-same, getD-set-other}
+use Rattle.basics.specs.Limits.{definitionLimit, nestLimit, registerLimit, addressEnd}
+use Rattle.basics.specs.declared.Fault.{Fault}
 use Rattle.basics.specs.declared.Fault.the-variants.{None, Refused}
-use Rattle.fields.specs.declared.Offset.{Offset}
-use Rattle.basics.specs.All.{all-none}
 use Rattle.basics.specs.Slices.{cellOf}
+use Rattle.fields.specs.Codes.{accessCode}
+use Rattle.fields.specs.declared.AccessRight.the-variants as access
+use Rattle.fields.specs.declared.Offset.{Offset}
+use Rattle.orders.specs.Order.{Sorts}
+use Rattle.orders.specs.Keys.{Keyed}
+use Rattle.orders.specs.Unique.{meets, firstMeeting, SomeMeeting}
+use Rattle.orders.proofs.Unique.{first-clear, first-within}
 use Rattle.cells.specs.Definitions.{Definition}
-use Rattle.capped.specs.Offsets.{larger}
 use Rattle.layout.specs.Layout.{shapeAt}
 use Rattle.layout.specs.declared.Shape.{Shape}
 use Rattle.sizes.specs.declared.Extent.{Extent}
 use Rattle.sizes.specs.Ready.{known}
 use Rattle.sizes.specs.Shapes.{shapeIn, allShapes}
 use Rattle.map_rules.specs.Visits.{Visit}
-use Rattle.map_rules.specs.Whole.{isRegisterVisit, isPair, isSharedLawfully, overlapRegisters, overlapsOne, overlapping}
+use Rattle.map_rules.specs.Whole.{hasAccess, isPair, isSharedLawfully, overlapRegisters, overlapping}
 use Rattle.map_walk.specs.Runs.{trailWidth, stepCells, logWidth}
 use Rattle.map_walk.specs.Walks.{LogRow, visitAt, noVisit, elementsOf, registersOf}
 use Rattle.overlaps.specs.declared.Plot.{Plot}
-use Rattle.overlaps.specs.Charted.{Charted, EndBy, plotIn, plotsOverlap, PlotFits}
+use Rattle.overlaps.specs.Charted.{Charted, plotIn}
+use Rattle.overlaps.specs.Sweeps.{registerCount, startIn, spanIn, clash, clashIn, LowStarts, Sweepable}
 use Rattle.basics.proofs.All.{all-at}
+use Rattle.overlaps.proofs.Access.{register-once}
 use Rattle.overlaps.proofs.Visits.{padded-cell, seen-length, seen-place, register-size, register-whole, RegisterSeen, registers-seen}
-use Rattle.overlaps.proofs.Overlaps.{one-register, one-none, one-above, ends-next, registers-decide, from-end, from-hit, from-on}
+use Rattle.overlaps.proofs.Overlaps.{registers-decide, FaultOf, Agrees, first-fault}
+use Rattle.overlaps.proofs.Sweeps.{Lined}
 
 -- a register of the log, from its cells
 same-plot : {a b c x y z : ℕ} → a ≡ x → b ≡ y → c ≡ z → _≡_ {A = Plot} (record { row = a; address = record { 0 = b }; size = c }) (record { row = x; address = record { 0 = y }; size = z })
@@ -43,34 +50,18 @@ plot-read s log i p q g = same-plot q p (ap (λ (z : Shape). z .size) g ∙ ap (
 pub place-read : (log : List ℕ) (i : ℕ) {depth x : ℕ} → depth ≡ cellOf log (i * logWidth + 2) → x ≡ cellOf log (i * logWidth + 3 * depth) → x ≡ cellOf log (i * logWidth + 3 * cellOf log (i * logWidth + 2))
 place-read log i p q = q ∙ ap (λ (n : ℕ). cellOf log (i * logWidth + 3 * n)) p
 
--- two registers: one behind the other, or lawfully shared, or not
-module _ (table : List Definition) (v u : Plot) where
-  abbrev lawless : Bool
-  lawless = not (isSharedLawfully table (v .row) (u .row))
+pub span-read : (table : List Definition) (s log : List ℕ) (i : ℕ) {p : Plot} {wa ra : ℕ} {w r : Bool} → p ≡ plotIn s log i
+    → wa ≡ accessCode access.W → w ≡ hasAccess table wa (p .row) → ra ≡ accessCode access.R → r ≡ hasAccess table ra (p .row)
+    → record { start = p .address .0; end = p .address .0 + p .size; readable = not w; writable = not r } ≡ spanIn table s log i
+unfolding spanIn
+span-read table s log i f a g b h = rw (g, a, h, b, f)
 
-  pub apart-behind : u .address .0 + u .size ≤ v .address .0 → false ≡ plotsOverlap table v u
-  unfolding plotsOverlap
-  apart-behind h = ap (λ (b : Bool). (b && ltb (u .address .0) (v .address .0 + v .size)) && lawless) (sym (le-ltb (v .address .0) (u .address .0 + u .size) h))
+-- the accesses of a type's fields
+abbrev readOnly : List Definition → ℕ → Bool
+readOnly table row = hasAccess table (accessCode access.R) row
 
-  module _ (a : v .address .0 < u .address .0 + u .size) where
-    first-below : {x : Bool} → x ≡ (ltb (u .address .0) (v .address .0 + v .size) && lawless) → x ≡ plotsOverlap table v u
-    unfolding plotsOverlap
-    first-below e = e ∙ ap (λ (b : Bool). (b && ltb (u .address .0) (v .address .0 + v .size)) && lawless) (sym (lt-ltb (v .address .0) (u .address .0 + u .size) a))
-
-    pub apart-before : v .address .0 + v .size ≤ u .address .0 → false ≡ plotsOverlap table v u
-    apart-before h = first-below (ap (λ (b : Bool). b && lawless) (sym (le-ltb (u .address .0) (v .address .0 + v .size) h)))
-
-    module _ {r : Bool} (b : u .address .0 < v .address .0 + v .size) (e : r ≡ isPair table (v .row) (u .row)) where
-      meeting : {x : Bool} → x ≡ lawless → x ≡ plotsOverlap table v u
-      meeting f = first-below (f ∙ ap (λ (b : Bool). b && lawless) (sym (lt-ltb (u .address .0) (v .address .0 + v .size) b)))
-
-      pub shared-first : r ≡ true → false ≡ plotsOverlap table v u
-      unfolding isSharedLawfully
-      shared-first y = meeting (ap (λ (b : Bool). not (b || isPair table (u .row) (v .row))) (sym y ∙ e))
-
-      pub shared-second : {s : Bool} → r ≡ false → s ≡ isPair table (u .row) (v .row) → not s ≡ plotsOverlap table v u
-      unfolding isSharedLawfully
-      shared-second y f = meeting (ap not f ∙ ap (λ (b : Bool). not (b || isPair table (u .row) (v .row))) (sym y ∙ e))
+abbrev writeOnly : List Definition → ℕ → Bool
+writeOnly table row = hasAccess table (accessCode access.W) row
 
 -- an address's number
 abbrev number : Offset → ℕ
@@ -81,14 +72,6 @@ pub record PlotOf (shapes : List Shape) (v : Visit) (p : Plot) : Type 0 where
   pub row : p .row ≡ v .type
   pub address : p .address ≡ v .address
   pub size : p .size ≡ shapeAt shapes (v .type) .size
-
-same-overlap : (table : List Definition) {a m x b n y a′ m′ x′ b′ n′ y′ : ℕ} → a ≡ a′ → m ≡ m′ → x ≡ x′ → b ≡ b′ → n ≡ n′ → y ≡ y′
-    → ((ltb a (b + n) && ltb b (a + m)) && not (isSharedLawfully table x y)) ≡ ((ltb a′ (b′ + n′) && ltb b′ (a′ + m′)) && not (isSharedLawfully table x′ y′))
-same-overlap table p q r s t u = rw (p, q, r, s, t, u)
-
-plots-overlap : (table : List Definition) (shapes : List Shape) {v u : Visit} {p q : Plot} → PlotOf shapes v p → PlotOf shapes u q → plotsOverlap table p q ≡ overlapRegisters table shapes v u
-unfolding plotsOverlap overlapRegisters
-plots-overlap table shapes a b = same-overlap table (ap number (a .address)) (a .size) (a .row) (ap number (b .address)) (b .size) (b .row)
 
 module _ (text t s log : List ℕ) (e : Extent) (row : ℕ) (c : Charted text t s log e row) (i : ℕ) (h : i < length (registersOf text t e row)) where
   abbrev visit : Visit
@@ -127,23 +110,25 @@ module _ (text t s log : List ℕ) (e : Extent) (row : ℕ) (c : Charted text t 
   plot-is : {p : Plot} → p ≡ plotIn s log i → PlotOf (allShapes text t e) (visitAt (registersOf text t e row) i) p
   plot-is f = rw f plot-of
 
-  pub plot-fits : {p : Plot} → p ≡ plotIn s log i → PlotFits e p
-  plot-fits f =
-      let o = plot-is f in
-      let w = seen-at .sited .within in
-      let z = register-size text t e (visit .type) (seen-at .type) in
-      record { row = rw (o .row) type-low; address = omega (arith, ap number (o .address), w); size = omega (arith, o .size, z) }
+  pub plot-low : {p : Plot} → p ≡ plotIn s log i → p .row < e .rows
+  plot-low f = rw (plot-is f .row) type-low
 
-  -- above the end of all those before it, it overlaps none
-  pub above-earlier : {p : Plot} {top : ℕ} → p ≡ plotIn s log i → EndBy (allShapes text t e) top (take i (registersOf text t e row)) → top ≤ p .address .0
-      → false ≡ overlapsOne (known text t e) (allShapes text t e) (visitAt (registersOf text t e row) i) (take i (registersOf text t e row))
-  above-earlier f a l = sym (one-above (known text t e) (allShapes text t e) visit (omega (arith, l, ap number (plot-is f .address))) a)
+  plot-end : plotIn s log i .address .0 + plotIn s log i .size ≤ addressEnd
+  plot-end = omega (arith, ap number (plot-of .address), plot-of .size, seen-at .sited .within)
 
-  pub ends-here : {p : Plot} {top : ℕ} → p ≡ plotIn s log i → EndBy (allShapes text t e) top (take i (registersOf text t e row))
-      → EndBy (allShapes text t e) (larger top (p .address .0 + p .size)) (take (i + 1) (registersOf text t e row))
-  ends-here {p = p} {top = top} f a =
-      let o = plot-is f in
-      ends-next (allShapes text t e) (registersOf text t e row) i top (p .address .0 + p .size) h a (omega (arith, ap number (o .address), o .size))
+  pub plot-sum : {p : Plot} → p ≡ plotIn s log i → p .address .0 + p .size < 2 ^ 64
+  plot-sum f = rw f (omega (arith, plot-end))
+
+  span-full : spanIn (known text t e) s log i .start < spanIn (known text t e) s log i .end
+  unfolding spanIn
+  span-full = omega (arith, plot-of .size, register-size text t e (visit .type) (seen-at .type))
+
+  start-low : startIn log i ≤ addressEnd
+  start-low = omega (arith, log-at .address, seen-at .exact, seen-at .sited .within)
+
+  -- it is not both read-only and write-only
+  once : (readOnly (known text t e) (visit .type) && writeOnly (known text t e) (visit .type)) ≡ false
+  once = register-once text t e (visit .type) (c .shaped .ready) type-low (seen-at .type .known-as)
 
   -- its name's place is that of its path's last step
   pub named-at : cellOf log (i * logWidth + 3 * cellOf log (i * logWidth + 2)) ≡ visitAt (registersOf text t e row) i .name .start
@@ -155,128 +140,159 @@ module _ (text t s log : List ℕ) (e : Extent) (row : ℕ) (c : Charted text t 
       ap (λ (m : ℕ). cellOf log (i * logWidth + 3 * m)) (log-at .depth) ∙ ap (cellOf log) z ∙ log-at .steps (3 * (n - 1)) k
       ∙ padded-cell trailWidth (stepCells (visit .path)) (3 * (n - 1)) k ∙ seen-place text t e 0 visit (seen-at .seen)
 
--- a register against those before it, from the j-th on
-pub record Comparing (text t s log : List ℕ) (e : Extent) (row i : ℕ) (plot : Plot) (j : ℕ) : Type 0 where
-  pub charted : Charted text t s log e row
-  pub low : i < length (registersOf text t e row)
-  pub plotted : plot ≡ plotIn s log i
-  pub within : j ≤ i
-  pub same : overlapsOne (known text t e) (allShapes text t e) (visitAt (registersOf text t e row) i) (drop j (take i (registersOf text t e row)))
-      ≡ overlapsOne (known text t e) (allShapes text t e) (visitAt (registersOf text t e row) i) (take i (registersOf text t e row))
+-- ---- the spans of two registers clash where the registers overlap
 
-module _ (text t s log : List ℕ) (e : Extent) (row i : ℕ) where
-  pub comparing-start : {plot : Plot} → Charted text t s log e row → i < length (registersOf text t e row) → plot ≡ plotIn s log i → Comparing text t s log e row i plot 0
-  comparing-start c h f = record { charted = c; low = h; plotted = f; within = omega arith; same = refl }
+-- two registers neither of which is both read-only and write-only are both readable, or both writable, or lawfully shared
+sides-lawful : (ri wi rj wj : Bool) → (ri && wi) ≡ false → (rj && wj) ≡ false
+    → ((not wi && not wj) || (not ri && not rj)) ≡ not ((rj && wi) || (ri && wj))
+sides-lawful true true rj wj a b = absurd (let z : _≡_ {A = ℕ} 0 1 = cc in omega arith)
+sides-lawful true false true true a b = absurd (let z : _≡_ {A = ℕ} 0 1 = cc in omega arith)
+sides-lawful true false true false a b = refl
+sides-lawful true false false true a b = refl
+sides-lawful true false false false a b = refl
+sides-lawful false true true true a b = absurd (let z : _≡_ {A = ℕ} 0 1 = cc in omega arith)
+sides-lawful false true true false a b = refl
+sides-lawful false true false true a b = refl
+sides-lawful false true false false a b = refl
+sides-lawful false false true true a b = absurd (let z : _≡_ {A = ℕ} 0 1 = cc in omega arith)
+sides-lawful false false true false a b = refl
+sides-lawful false false false true a b = refl
+sides-lawful false false false false a b = refl
 
-  module _ {plot : Plot} {j : ℕ} (c : Comparing text t s log e row i plot j) where
-    abbrev table : List Definition
-    table = known text t e
+same-clash : (table : List Definition) {a m x b n y a′ m′ x′ b′ n′ y′ : ℕ} → a ≡ a′ → m ≡ m′ → x ≡ x′ → b ≡ b′ → n ≡ n′ → y ≡ y′
+    → (readOnly table x′ && writeOnly table x′) ≡ false → (readOnly table y′ && writeOnly table y′) ≡ false
+    → ((ltb b (a + m) && ltb a (b + n)) &&
+    ((not (writeOnly table x) && not (writeOnly table y)) || (not (readOnly table x) && not (readOnly table y))))
+    ≡ ((ltb b′ (a′ + m′) && ltb a′ (b′ + n′)) && not (isSharedLawfully table y′ x′))
+unfolding isSharedLawfully isPair
+same-clash table {a′ = a′} {m′ = m′} {x′ = x′} {b′ = b′} {n′ = n′} {y′ = y′} p q r s t u f g =
+    rw (p, q, r, s, t, u)
+    (ap (λ (b : Bool). (ltb b′ (a′ + m′) && ltb a′ (b′ + n′)) && b)
+    (sides-lawful (readOnly table x′) (writeOnly table x′) (readOnly table y′) (writeOnly table y′) f g))
 
-    abbrev shapes : List Shape
-    shapes = allShapes text t e
+module _ (text t s log : List ℕ) (e : Extent) (c : Charted text t s log e (e .map)) where
+  abbrev registers : List Visit
+  registers = registersOf text t e (e .map)
 
-    abbrev vs : List Visit
-    vs = registersOf text t e row
+  clash-overlaps : (i j : ℕ) → i < registerCount text t e → j < registerCount text t e
+      → clashIn text t s log e i j ≡ overlapRegisters (known text t e) (allShapes text t e) (visitAt registers j) (visitAt registers i)
+  unfolding clash spanIn overlapRegisters
+  clash-overlaps i j h l =
+      let a = plot-of text t s log e (e .map) c i h in
+      let b = plot-of text t s log e (e .map) c j l in
+      same-clash (known text t e) (ap number (a .address)) (a .size) (a .row) (ap number (b .address)) (b .size) (b .row)
+      (once text t s log e (e .map) c i h) (once text t s log e (e .map) c j l)
 
-    pub comparing-own : PlotFits e plot
-    comparing-own = plot-fits text t s log e row (c .charted) i (c .low) (c .plotted)
+  agrees : Agrees (known text t e) (allShapes text t e) registers (clashIn text t s log e)
+  agrees = record { registers = λ i h. seen-at text t s log e (e .map) c i h .register; pairs = clash-overlaps }
 
-    pub comparing-end : i ≤ j → false ≡ overlapsOne (known text t e) (allShapes text t e) (visitAt (registersOf text t e row) i) (take i (registersOf text t e row))
-    comparing-end h =
-        let z : j ≡ i = omega (arith, h, c .within) in
-        let w : drop j (take i vs) ≡ [] = ap (λ (n : ℕ). drop n (take i vs)) z ∙ slice-empty i vs in
-        sym (one-none table shapes (visitAt vs i)) ∙ ap (overlapsOne table shapes (visitAt vs i)) (sym w) ∙ c .same
+  -- 21 of the map is that of the first register whose span clashes with an earlier one
+  abbrev fault : Fault
+  fault = overlapping (known text t e) (allShapes text t e) [] (elementsOf text t e (e .map))
 
-    module _ (h : j < i) where
-      earlier-low : j < length (registersOf text t e row)
-      earlier-low = omega (arith, h, c .low)
+  map-fault : FaultOf registers (firstMeeting (clashIn text t s log e) (registerCount text t e)) fault
+  map-fault =
+      rw (registers-decide (known text t e) (allShapes text t e) (elementsOf text t e (e .map)))
+      (first-fault (known text t e) (allShapes text t e) registers agrees)
 
-      pub earlier-few : j ≤ registerLimit
-      earlier-few = index-few text t s log e row (c .charted) j earlier-low
+  module _ {count first : ℕ} (n : count ≡ registerCount text t e)
+      (f : first ≡ firstMeeting (clashIn text t s log e) (registerCount text t e))
+    where
+      found-fault : FaultOf registers first fault
+      found-fault = rw f map-fault
 
-      pub earlier-row : cellOf log (j * logWidth + 1) < definitionLimit
-      earlier-row = row-few text t s log e row (c .charted) j earlier-low
+      pub found-none : first ≡ count → None ≡ fault
+      found-none z = sym (found-fault .none (omega (arith, n)))
 
-      module _ {other : Plot} (o : other ≡ plotIn s log j) where
-        pub earlier-fits : PlotFits e other
-        earlier-fits = plot-fits text t s log e row (c .charted) j earlier-low o
+      module _ (z : first ≡ count → ⊥) where
+        found-low : first < registerCount text t e
+        found-low =
+            let l : first ≤ registerCount text t e = rw f (first-within (clashIn text t s log e) (registerCount text t e)) in
+            omega (arith, n)
 
-        module _ {r : Bool} (f : r ≡ plotsOverlap (known text t e) plot other) where
-          here : overlapsOne (known text t e) (allShapes text t e) (visitAt (registersOf text t e row) i) (take i (registersOf text t e row))
-              ≡ (r || overlapsOne (known text t e) (allShapes text t e) (visitAt (registersOf text t e row) i) (drop (suc j) (take i (registersOf text t e row))))
-          here =
-              let v : Visit = visitAt vs i in
-              let u : Visit = visitAt vs j in
-              let rest : List Visit = drop (suc j) (take i vs) in
-              let z : drop j (take i vs) ≡ u ∷ rest = slice-cons j i vs noVisit h (omega (arith, c .low)) in
-              let g : r ≡ overlapRegisters table shapes v u =
-              f ∙ plots-overlap table shapes (plot-is text t s log e row (c .charted) i (c .low) (c .plotted)) (plot-is text t s log e row (c .charted) j earlier-low o) in
-              sym (c .same) ∙ ap (overlapsOne table shapes v) z ∙ one-register table shapes v u rest (seen-at text t s log e row (c .charted) j earlier-low .register)
-              ∙ ap (λ (b : Bool). b || overlapsOne table shapes v rest) (sym g)
+        pub found-few : first ≤ registerLimit
+        found-few = index-few text t s log e (e .map) c first found-low
 
-          pub comparing-hit : r ≡ true → true ≡ overlapsOne (known text t e) (allShapes text t e) (visitAt (registersOf text t e row) i) (take i (registersOf text t e row))
-          comparing-hit y = sym (here ∙ ap (λ (b : Bool). b || overlapsOne table shapes (visitAt vs i) (drop (suc j) (take i vs))) y)
+        pub found-depth : cellOf log (first * logWidth + 2) ≤ nestLimit
+        found-depth = depth-few text t s log e (e .map) c first found-low
 
-          pub comparing-next : r ≡ false → Comparing text t s log e row i plot (j + 1)
-          comparing-next y =
-              let v : Visit = visitAt vs i in
-              record {
-                charted = c .charted;
-                low = c .low;
-                plotted = c .plotted;
-                within = omega (arith, h);
-                same = ap (λ (n : ℕ). overlapsOne table shapes v (drop n (take i vs))) (add-one j) ∙ sym (here ∙ ap (λ (b : Bool). b || overlapsOne table shapes v (drop (suc j) (take i vs))) y);
-              }
+        pub found-some : {place : ℕ} → place ≡ cellOf log (first * logWidth + 3 * cellOf log (first * logWidth + 2))
+            → Refused 21 place ≡ fault
+        found-some p =
+            ap (Refused 21) (p ∙ named-at text t s log e (e .map) c first found-low)
+            ∙ sym (found-fault .refused found-low)
 
--- all registers, from the i-th on
-pub record Searching (text t s log : List ℕ) (e : Extent) (row count i top : ℕ) : Type 0 where
-  pub charted : Charted text t s log e row
-  pub ends : EndBy (allShapes text t e) top (take i (registersOf text t e row))
-  pub all : count ≡ length (registersOf text t e row)
-  pub same : overlapping (known text t e) (allShapes text t e) (take i (registersOf text t e row)) (drop i (registersOf text t e row))
-      ≡ overlapping (known text t e) (allShapes text t e) [] (elementsOf text t e row)
+-- ---- the keys
 
-module _ (text t s log : List ℕ) (e : Extent) (row count : ℕ) where
-  pub searching-start : Charted text t s log e row → count ≡ length (registersOf text t e row) → Searching text t s log e row count 0 0
-  searching-start c f = record { charted = c; ends = all-none; all = f; same = sym (registers-decide (known text t e) (allShapes text t e) (elementsOf text t e row)) }
+-- the keys of the first i registers
+pub record Filling (log : List ℕ) (i : ℕ) (xs : List ℕ) : Type 0 where
+  pub each : (j : ℕ) → j < i → getD xs j 0 ≡ startIn log j * registerLimit + j
 
-  module _ {i top : ℕ} (c : Searching text t s log e row count i top) where
-    pub searching-end : count ≤ i → None ≡ overlapping (known text t e) (allShapes text t e) [] (elementsOf text t e row)
-    searching-end h = sym (from-end (known text t e) (allShapes text t e) (registersOf text t e row) i (omega (arith, h, c .all))) ∙ c .same
+pub filling-start : (log xs : List ℕ) → Filling log 0 xs
+filling-start log xs = record { each = λ j h. absurd (omega arith) }
 
-    module _ (h : i < count) where
-      pub searching-low : i < length (registersOf text t e row)
-      searching-low = omega (arith, h, c .all)
+pub filling-on : (log : List ℕ) {i : ℕ} {xs : List ℕ} {x : ℕ} → Filling log i xs → i < length xs → x ≡ startIn log i
+    → Filling log (i + 1) (set xs i (x * registerLimit + i))
+filling-on log {i} {xs} {x} f h e =
+    record {
+      each = λ j l.
+          elim (decLt j i) [
+            | yes o ↦ getD-set-other xs i j (x * registerLimit + i) 0 (λ z. omega arith) ∙ f .each j o
+            | no o ↦ let z : j ≡ i = omega arith in rw (z, e) (getD-set-same xs i (startIn log i * registerLimit + i) 0 h)
+          ];
+    }
 
-      pub searching-few : i ≤ registerLimit
-      searching-few = index-few text t s log e row (c .charted) i searching-low
+pub filling-end : (log : List ℕ) {i : ℕ} {xs : List ℕ} {n : ℕ} → Filling log i xs → length xs ≤ i → length xs ≡ n → n ≤ registerLimit
+    → Keyed (startIn log) registerLimit xs
+filling-end log f h e l = record { room = omega arith; each = λ j o. f .each j (omega arith) }
 
-      pub searching-row : cellOf log (i * logWidth + 1) < definitionLimit
-      searching-row = row-few text t s log e row (c .charted) i searching-low
+-- a key fits its cell
+module _ (log : List ℕ) {i m n x : ℕ} (f : LowStarts log n) (k : m ≡ n) (h : i < m) (l : n ≤ registerLimit) (e : x ≡ startIn log i) where
+  pub product-fits : x * registerLimit < 2 ^ 64
+  product-fits = omega (arith, f .each i (omega arith))
 
-      pub searching-sum : {p : Plot} → p ≡ plotIn s log i → p .address .0 + p .size < 2 ^ 64
-      searching-sum f =
-          let o = plot-fits text t s log e row (c .charted) i searching-low f in
-          omega (arith, o .address, o .size)
+  pub key-fits : x * registerLimit + i < 2 ^ 64
+  key-fits = omega (arith, f .each i (omega arith))
 
-      pub searching-depth : cellOf log (i * logWidth + 2) ≤ nestLimit
-      searching-depth = depth-few text t s log e row (c .charted) i searching-low
+module _ (text t s log : List ℕ) (e : Extent) where
+  pub low-starts : {n : ℕ} → Charted text t s log e (e .map) → n ≡ registerCount text t e → LowStarts log n
+  low-starts c f = record { each = λ i h. start-low text t s log e (e .map) c i (omega arith) }
 
-      is-register : isRegisterVisit (known text t e) (visitAt (registersOf text t e row) i) ≡ true
-      is-register = seen-at text t s log e row (c .charted) i searching-low .register
+  pub few-keys : {n : ℕ} → Charted text t s log e (e .map) → n ≡ registerCount text t e → n ≤ registerLimit
+  few-keys c f = omega (arith, c .few)
 
-      module _ {r : Bool} (f : r ≡ overlapsOne (known text t e) (allShapes text t e) (visitAt (registersOf text t e row) i) (take i (registersOf text t e row))) where
-        pub searching-hit : {place : ℕ} → r ≡ true → place ≡ cellOf log (i * logWidth + 3 * cellOf log (i * logWidth + 2))
-            → Refused 21 place ≡ overlapping (known text t e) (allShapes text t e) [] (elementsOf text t e row)
-        searching-hit y p =
-            ap (Refused 21) (p ∙ named-at text t s log e row (c .charted) i searching-low)
-            ∙ sym (from-hit (known text t e) (allShapes text t e) (registersOf text t e row) i searching-low is-register (sym f ∙ y)) ∙ c .same
+  pub sweepable : {n : ℕ} {xs ys : List ℕ} → Charted text t s log e (e .map) → Keyed (startIn log) registerLimit xs
+      → length xs ≡ n → n ≡ registerCount text t e → Sorts xs ys → Sweepable text t s log e ys
+  sweepable {xs = xs} c k m f o = record { charted = c; ordered = record { keys = xs; size = m ∙ f; keyed = k; sorts = o } }
 
-        pub searching-next : {p : Plot} {end : ℕ} → p ≡ plotIn s log i → r ≡ false → end ≡ larger top (p .address .0 + p .size) → Searching text t s log e row count (i + 1) end
-        searching-next g y z =
-            record {
-              charted = c .charted;
-              ends = rw z (ends-here text t s log e row (c .charted) i searching-low g (c .ends));
-              all = c .all;
-              same = sym (from-on (known text t e) (allShapes text t e) (registersOf text t e row) i searching-low is-register (sym f ∙ y)) ∙ c .same;
-            }
+  module _ {order : List ℕ} (w : Sweepable text t s log e order) where
+    order-length : length order ≡ registerCount text t e
+    order-length = w .ordered .sorts .permutes .size ∙ w .ordered .size
+
+    pub order-charted : Charted text t s log e (e .map)
+    order-charted = w .charted
+
+    pub lined : Lined (spanIn (known text t e) s log) (registerCount text t e) order
+    unfolding spanIn plotIn
+    lined =
+        record {
+          number = startIn log;
+          ordered = w .ordered;
+          starts = λ k. refl;
+          full = λ k h. span-full text t s log e (e .map) (w .charted) k h;
+        }
+
+    pub all-within : {count : ℕ} → count ≡ length order → count ≤ registerCount text t e
+    all-within f = omega (arith, order-length)
+
+    module _ {count found : ℕ} (m : count ≡ length order) (f : SomeMeeting (clashIn text t s log e) count found) where
+      pub all-clear : found ≡ count → count ≡ firstMeeting (clashIn text t s log e) (registerCount text t e)
+      all-clear z =
+          let n : count ≡ registerCount text t e = m ∙ order-length in
+          rw n (first-clear (clashIn text t s log e) (registerCount text t e) (rw n at (f .clear z)))
+
+      pub found-within : (found ≡ count → ⊥) → found < registerCount text t e
+      found-within z = omega (arith, f .within, m, order-length)
+
+      pub found-meets : (found ≡ count → ⊥) → meets (clashIn text t s log e) found found ≡ true
+      found-meets z = f .hit (let l = f .within in omega arith)

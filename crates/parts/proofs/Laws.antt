@@ -1,29 +1,32 @@
 -- The readers of parts, one law for each way that the code goes.
 use mathlib.Core.Bool.{Bool, true, false, _||_}
-use mathlib.Core.Path.{_≡_, refl, sym, _∙_}
+use mathlib.Core.Path.{_≡_, refl, sym, _∙_, ap}
 use mathlib.Core.List.{List}
 use Prim.Native.Nat.{ℕ}
 use native.Mathlib.Omega.{arith}
 use Rattle.lex.specs.Token.{tokenAt}
 use Rattle.lex.specs.declared.Token.{Token}
+use Rattle.lex.specs.declared.Word.{Word}
 use Rattle.vocabulary.specs.declared.Mark.{Mark}
 use Rattle.vocabulary.specs.declared.Mark.the-variants as mark
 use Rattle.expressions.specs.Grammar.{numberAt}
 use Rattle.expressions.specs.Answers.{numberRead}
 use Rattle.parts.specs.Reading.{Parsed, ok, stop, andThen, mapped}
 use Rattle.parts.specs.Words.{isName, kindOf, isDefault, isProperty, isMark}
-use Rattle.parts.specs.Parts.{closedBy, nameAt, arrayRestAt, arrayAt, suffixMark, suffixAt, instanceOf, bare, setSuffix, withSuffix, bareAt, startsSuffix, placingAt, suffixedAt, instanceAt, partedAt, listedAt, valueIn, valueAt, property, settingAt, propertyWordAt, propertyAt, headerRestAt, headerAt, startsInstances}
-use Rattle.parts.specs.Answers.{nameRead, arrayRead, suffixRead, instanceRead, valueRead}
+use Rattle.parts.specs.Parts.{closedBy, nameAt, arrayRestAt, arrayAt, suffixMark, suffixAt, instanceOf, bare, setSuffix, withSuffix, bareAt, suffixedAt, instanceAt, partedAt, listedAt, valueIn, valueAt, property, settingAt, propertyWordAt, propertyAt, headerRestAt, headerAt, startsInstances}
+use Rattle.parts.specs.Ahead.{aheadAt, Stands, Looked, found, refused, looked, placed, spacingAt, startsSpacing, startsSuffix, PartedBy}
+use Rattle.parts.specs.Answers.{nameRead, arrayRead, suffixRead, instanceAheadRead, valueRead}
 use Rattle.expressions.specs.declared.Number.{Number}
 use Rattle.expressions.specs.declared.NumberReading.{NumberReading}
 use Rattle.parts.specs.declared.Name.{Name}
 use Rattle.parts.specs.declared.NameReading.{NameReading}
+use Rattle.parts.specs.declared.Ahead.{Ahead}
 use Rattle.parts.specs.declared.Array.{Array}
 use Rattle.parts.specs.declared.ArrayReading.{ArrayReading}
 use Rattle.parts.specs.declared.Suffix.{Suffix}
 use Rattle.parts.specs.declared.SuffixReading.{SuffixReading}
 use Rattle.parts.specs.declared.Instance.{Instance}
-use Rattle.parts.specs.declared.InstanceReading.{InstanceReading}
+use Rattle.parts.specs.declared.InstanceAheadReading.{InstanceAheadReading}
 use Rattle.parts.specs.declared.ListItem.{ListItem}
 use Rattle.parts.specs.declared.Value.{Value}
 use Rattle.parts.specs.declared.ValueReading.{ValueReading}
@@ -33,7 +36,7 @@ use Rattle.parts.specs.declared.NameReading.the-variants as nameReading
 use Rattle.expressions.specs.declared.NumberReading.the-variants as numberReading
 use Rattle.parts.specs.declared.ArrayReading.the-variants as arrayReading
 use Rattle.parts.specs.declared.SuffixReading.the-variants as suffixReading
-use Rattle.parts.specs.declared.InstanceReading.the-variants as instanceReading
+use Rattle.parts.specs.declared.InstanceAheadReading.the-variants as instanceAheadReading
 use Rattle.parts.specs.declared.ValueReading.the-variants as valueReading
 use Rattle.parts.specs.declared.Array.the-variants as array
 use Rattle.parts.specs.declared.Suffix.the-variants as suffix
@@ -66,6 +69,37 @@ module _ {A B : Type 0} {p : Parsed A} (f : A → B) where
   unfolding mapped
   mapped-stop e = rw (← e)
 
+-- a reading with the token behind it, from the reading and back
+module _ (t : List ℕ) {A : Type 0} {p : Parsed A} where
+  looked-ok : {a : A} {n : ℕ} → ok a n ≡ p → found a (aheadAt t n) ≡ looked t p
+  unfolding looked
+  looked-ok e = rw (← e)
+
+  looked-stop : {n q : ℕ} → stop n q ≡ p → refused n q ≡ looked t p
+  unfolding looked
+  looked-stop e = rw (← e)
+
+  looked-then : {B : Type 0} (k : A → ℕ → Parsed B) {a : A} {n : ℕ} {y : Looked B} → ok a n ≡ p → y ≡ looked t (k a n)
+      → y ≡ looked t (andThen p k)
+  unfolding andThen
+  looked-then k e f = rw (← e) f
+
+found-at : (t : List ℕ) {A : Type 0} (p : Parsed A) {a : A} {b : Ahead} → found a b ≡ looked t p → (ok a (b .at) ≡ p) × Stands t b
+unfolding looked aheadAt Stands
+found-at t (ok x n) {a} {b} e =
+    let f : a ≡ x = cc in
+    let g : b ≡ aheadAt t n = cc in
+    (rw (f, g), rw g)
+found-at t (stop n q) e = absurd (let z : _≡_ {A = ℕ} 0 1 = cc in omega arith)
+
+refused-at : (t : List ℕ) {A : Type 0} (p : Parsed A) {n q : ℕ} → refused n q ≡ looked t p → stop n q ≡ p
+unfolding looked
+refused-at t (ok x m) e = absurd (let z : _≡_ {A = ℕ} 0 1 = cc in omega arith)
+refused-at t (stop m s) {n} {q} e =
+    let f : n ≡ m = cc in
+    let g : q ≡ s = cc in
+    rw (f, g)
+
 -- the token k stands at the cursor
 module _ (t : List ℕ) (at : ℕ) {k : Token} (e : k ≡ tokenAt t at) where
   module _ {r : Bool} (f : r ≡ isName (k .word)) where
@@ -87,72 +121,33 @@ module _ (t : List ℕ) (at : ℕ) {k : Token} (e : k ≡ tokenAt t at) where
     unfolding closedBy
     closed-no g = rw (← e, sym f ∙ g)
 
+    pub closed-ahead : {b : Ahead} → r ≡ true → b ≡ aheadAt t (k .end) → found a b ≡ looked t (closedBy m a t at)
+    closed-ahead g h = rw h (looked-ok t (closed-yes g))
+
+    pub closed-refused : r ≡ false → refused 3 (k .start) ≡ looked t (closedBy m a t at)
+    closed-refused g = looked-stop t (closed-no g)
+
   -- behind the first number of an array
   module _ (p : ℕ) (left : Number) where
     module _ {r : Bool} (f : r ≡ isMark mark.CloseBracket (k .word)) where
-      pub size-yes : r ≡ true → ok (array.Size p left) (k .end) ≡ arrayRestAt p left t at
-      unfolding arrayRestAt
-      size-yes g = rw (← e, sym f ∙ g)
+      pub size-yes : {b : Ahead} → r ≡ true → b ≡ aheadAt t (k .end) → found (array.Size p left) b ≡ looked t (arrayRestAt p left t at)
+      unfolding arrayRestAt looked
+      size-yes g h = rw (h, ← e, sym f ∙ g)
 
       module _ {s : Bool} (g : r ≡ false) (h : s ≡ isMark mark.Colon (k .word)) where
-        pub range-no : s ≡ false → stop 3 (k .start) ≡ arrayRestAt p left t at
-        unfolding arrayRestAt
+        pub range-no : s ≡ false → refused 3 (k .start) ≡ looked t (arrayRestAt p left t at)
+        unfolding arrayRestAt looked
         range-no i = rw (← e, sym f ∙ g, sym h ∙ i)
 
         module _ {x : NumberReading} (i : s ≡ true) (j : numberRead x ≡ numberAt t (k .end)) where
-          pub range-stop : {m q : ℕ} → x ≡ numberReading.Refused m q → stop m q ≡ arrayRestAt p left t at
+          pub range-stop : {m q : ℕ} → x ≡ numberReading.Refused m q → refused m q ≡ looked t (arrayRestAt p left t at)
           unfolding arrayRestAt
-          range-stop l = rw (← e, sym f ∙ g, sym h ∙ i) (then-stop _ (rw l at j))
+          range-stop l = rw (← e, sym f ∙ g, sym h ∙ i) (looked-stop t (then-stop _ (rw l at j)))
 
-          pub range-close : {right : Number} {n : ℕ} {y : Parsed Array} → x ≡ numberReading.Done right n → y ≡ closedBy mark.CloseBracket (array.Range p left right) t n
-              → y ≡ arrayRestAt p left t at
+          pub range-close : {right : Number} {n : ℕ} {y : Looked Array} → x ≡ numberReading.Done right n
+              → y ≡ looked t (closedBy mark.CloseBracket (array.Range p left right) t n) → y ≡ looked t (arrayRestAt p left t at)
           unfolding arrayRestAt
-          range-close l m = rw (← e, sym f ∙ g, sym h ∙ i) (m ∙ then-ok _ (rw l at j))
-
-  -- an optional array
-  module _ {r : Bool} (f : r ≡ isMark mark.OpenBracket (k .word)) where
-    pub array-none : r ≡ false → ok array.Missing at ≡ arrayAt t at
-    unfolding arrayAt
-    array-none g = rw (← e, sym f ∙ g)
-
-    module _ {x : NumberReading} (g : r ≡ true) (j : numberRead x ≡ numberAt t (k .end)) where
-      pub array-stop : {m q : ℕ} → x ≡ numberReading.Refused m q → stop m q ≡ arrayAt t at
-      unfolding arrayAt
-      array-stop l = rw (← e, sym f ∙ g) (then-stop _ (rw l at j))
-
-      pub array-rest : {left : Number} {n : ℕ} {y : Parsed Array} → x ≡ numberReading.Done left n → y ≡ arrayRestAt (k .start) left t n → y ≡ arrayAt t at
-      unfolding arrayAt
-      array-rest l m = rw (← e, sym f ∙ g) (m ∙ then-ok _ (rw l at j))
-
-  -- an optional suffix
-  module _ (s : SuffixKind) {m : Mark} {r : Bool} (d : m ≡ suffixMark s) (f : r ≡ isMark m (k .word)) where
-    pub suffix-none : r ≡ false → ok suffix.Missing at ≡ suffixAt s t at
-    unfolding suffixAt
-    suffix-none g = rw (← e, ← d, sym f ∙ g)
-
-    module _ {x : NumberReading} (g : r ≡ true) (j : numberRead x ≡ numberAt t (k .end)) where
-      pub suffix-stop : {m q : ℕ} → x ≡ numberReading.Refused m q → stop m q ≡ suffixAt s t at
-      unfolding suffixAt
-      suffix-stop l = rw (← e, ← d, sym f ∙ g) (mapped-stop _ (rw l at j))
-
-      pub suffix-given : {number : Number} {n : ℕ} → x ≡ numberReading.Done number n → ok (suffix.Given (k .start) number) n ≡ suffixAt s t at
-      unfolding suffixAt
-      suffix-given l = rw (← e, ← d, sym f ∙ g) (mapped-ok _ (rw l at j))
-
-  -- behind an instance of a list
-  module _ (i : Instance) {r : Bool} (f : r ≡ isMark mark.Semicolon (k .word)) where
-    pub parted-last : r ≡ true → ok (record { instance = i; last = true }) (k .end) ≡ partedAt i t at
-    unfolding partedAt
-    parted-last g = rw (← e, sym f ∙ g)
-
-    module _ {s : Bool} (g : r ≡ false) (h : s ≡ isMark mark.Comma (k .word)) where
-      pub parted-more : s ≡ true → ok (record { instance = i; last = false }) (k .end) ≡ partedAt i t at
-      unfolding partedAt
-      parted-more j = rw (← e, sym f ∙ g, sym h ∙ j)
-
-      pub parted-no : s ≡ false → stop 3 (k .start) ≡ partedAt i t at
-      unfolding partedAt
-      parted-no j = rw (← e, sym f ∙ g, sym h ∙ j)
+          range-close l m = rw (← e, sym f ∙ g, sym h ∙ i) (looked-then t _ (rw l at j) m)
 
   -- a value
   module _ {l : ValueLookup} (f : l ≡ valueIn (k .word) (k .start)) where
@@ -248,100 +243,205 @@ module _ (t : List ℕ) (at : ℕ) {k : Token} (e : k ≡ tokenAt t at) where
     unfolding startsInstances
     starts-by g h i = rw (← e, sym f ∙ g, ← h) i
 
--- whether a suffix stands there, by one test after another
-module _ (t : List ℕ) (at : ℕ) {k : Token} (e : k ≡ tokenAt t at) {a : Bool} (f : a ≡ isMark mark.Equals (k .word)) where
-  pub starts-reset : a ≡ true → true ≡ startsSuffix t at
+-- an instance of a list, by the token behind it
+module _ (i : Instance) (k : Token) {r : Bool} (f : r ≡ isMark mark.Semicolon (k .word)) where
+  pub parted-last : r ≡ true → PartedBy i k (ok (record { instance = i; last = true }) (k .end))
+  unfolding partedAt
+  parted-last g = record { parted = λ t at e. rw (← e, sym f ∙ g) }
+
+  module _ {s : Bool} (g : r ≡ false) (h : s ≡ isMark mark.Comma (k .word)) where
+    pub parted-more : s ≡ true → PartedBy i k (ok (record { instance = i; last = false }) (k .end))
+    unfolding partedAt
+    parted-more j = record { parted = λ t at e. rw (← e, sym f ∙ g, sym h ∙ j) }
+
+    pub parted-no : s ≡ false → PartedBy i k (stop 3 (k .start))
+    unfolding partedAt
+    parted-no j = record { parted = λ t at e. rw (← e, sym f ∙ g, sym h ∙ j) }
+
+-- the token ahead stands at its cursor
+module _ (t : List ℕ) (b : Ahead) (e : Stands t b) where
+  pub stands-token : b .token ≡ tokenAt t (b .at)
+  unfolding Stands aheadAt
+  stands-token = ap (λ x. x .token) e
+
+  still : {A : Type 0} (a : A) → found a b ≡ looked t (ok a (b .at))
+  unfolding Stands looked
+  still a = ap (found a) e
+
+  -- an optional array
+  module _ {r : Bool} (f : r ≡ isMark mark.OpenBracket (b .token .word)) where
+    pub array-none : r ≡ false → found array.Missing b ≡ looked t (arrayAt t (b .at))
+    unfolding arrayAt
+    array-none g = rw (← stands-token, sym f ∙ g) (still array.Missing)
+
+    module _ {x : NumberReading} (g : r ≡ true) (j : numberRead x ≡ numberAt t (b .token .end)) where
+      pub array-stop : {m q : ℕ} → x ≡ numberReading.Refused m q → refused m q ≡ looked t (arrayAt t (b .at))
+      unfolding arrayAt
+      array-stop l = rw (← stands-token, sym f ∙ g) (looked-stop t (then-stop _ (rw l at j)))
+
+      pub array-rest : {left : Number} {n : ℕ} {y : Looked Array} → x ≡ numberReading.Done left n
+          → y ≡ looked t (arrayRestAt (b .token .start) left t n) → y ≡ looked t (arrayAt t (b .at))
+      unfolding arrayAt
+      array-rest l m = rw (← stands-token, sym f ∙ g) (looked-then t _ (rw l at j) m)
+
+  -- an optional suffix
+  module _ (s : SuffixKind) {m : Mark} {r : Bool} (d : m ≡ suffixMark s) (f : r ≡ isMark m (b .token .word)) where
+    pub suffix-none : r ≡ false → found suffix.Missing b ≡ looked t (suffixAt s t (b .at))
+    unfolding suffixAt
+    suffix-none g = rw (← stands-token, ← d, sym f ∙ g) (still suffix.Missing)
+
+    module _ {x : NumberReading} (g : r ≡ true) (j : numberRead x ≡ numberAt t (b .token .end)) where
+      pub suffix-stop : {m q : ℕ} → x ≡ numberReading.Refused m q → refused m q ≡ looked t (suffixAt s t (b .at))
+      unfolding suffixAt
+      suffix-stop l = rw (← stands-token, ← d, sym f ∙ g) (looked-stop t (mapped-stop _ (rw l at j)))
+
+      pub suffix-given : {number : Number} {n : ℕ} {c : Ahead} → x ≡ numberReading.Done number n → c ≡ aheadAt t n
+          → found (suffix.Given (b .token .start) number) c ≡ looked t (suffixAt s t (b .at))
+      unfolding suffixAt
+      suffix-given l h = rw (h, ← stands-token, ← d, sym f ∙ g) (looked-ok t (mapped-ok _ (rw l at j)))
+
+-- what was looked at stands there
+module _ (t : List ℕ) where
+  pub look-at : (at : ℕ) {k : Token} → k ≡ tokenAt t at → record { at = at; token = k } ≡ aheadAt t at
+  unfolding aheadAt
+  look-at at e = rw e
+
+  pub look-stands : (at : ℕ) {b : Ahead} → b ≡ aheadAt t at → Stands t b
+  unfolding Stands aheadAt
+  look-stands at e = rw e
+
+  pub array-stands : (at : ℕ) {x : ArrayReading} {a : Array} {b : Ahead} → arrayRead x ≡ looked t (arrayAt t at)
+      → x ≡ arrayReading.Done a b → Stands t b
+  array-stands at e f = found-at t (arrayAt t at) (rw f at e) .1
+
+  pub suffix-stands : (s : SuffixKind) (at : ℕ) {x : SuffixReading} {a : Suffix} {b : Ahead} → suffixRead x ≡ looked t (suffixAt s t at)
+      → x ≡ suffixReading.Done a b → Stands t b
+  suffix-stands s at e f = found-at t (suffixAt s t at) (rw f at e) .1
+
+-- whether a stride or an alignment follows
+module _ (w : Word) {a : Bool} (e : a ≡ isMark mark.PlusEquals w) where
+  pub spacing-stride : a ≡ true → true ≡ startsSpacing w
+  unfolding startsSpacing
+  spacing-stride f = rw (sym e ∙ f)
+
+  pub spacing-alignment : {b : Bool} → a ≡ false → b ≡ isMark mark.PercentEquals w → b ≡ startsSpacing w
+  unfolding startsSpacing
+  spacing-alignment f g = rw (sym e ∙ f) g
+
+-- whether any suffix follows
+module _ (w : Word) {a : Bool} (e : a ≡ isMark mark.Equals w) where
+  pub starts-reset : a ≡ true → true ≡ startsSuffix w
   unfolding startsSuffix
-  starts-reset g = rw (← e, sym f ∙ g)
+  starts-reset f = rw (sym e ∙ f)
 
-  module _ (g : a ≡ false) {b : Bool} (h : b ≡ isMark mark.At (k .word)) where
-    pub starts-address : b ≡ true → true ≡ startsSuffix t at
+  module _ (f : a ≡ false) {b : Bool} (g : b ≡ isMark mark.At w) where
+    pub starts-address : b ≡ true → true ≡ startsSuffix w
     unfolding startsSuffix
-    starts-address i = rw (← e, sym f ∙ g, sym h ∙ i)
+    starts-address h = rw (sym e ∙ f, sym g ∙ h)
 
-    module _ (i : b ≡ false) {c : Bool} (j : c ≡ isMark mark.PlusEquals (k .word)) where
-      pub starts-stride : c ≡ true → true ≡ startsSuffix t at
-      unfolding startsSuffix
-      starts-stride l = rw (← e, sym f ∙ g, sym h ∙ i, sym j ∙ l)
+    pub starts-spaced : {c : Bool} → b ≡ false → c ≡ startsSpacing w → c ≡ startsSuffix w
+    unfolding startsSuffix
+    starts-spaced h i = rw (sym e ∙ f, sym g ∙ h) i
 
-      pub starts-alignment : {d : Bool} → c ≡ false → d ≡ isMark mark.PercentEquals (k .word) → d ≡ startsSuffix t at
-      unfolding startsSuffix
-      starts-alignment l m = rw (← e, sym f ∙ g, sym h ∙ i, sym j ∙ l) m
-
--- an instance with no suffix behind its name and array
-none-of : (a b c d : Bool) → (a || (b || (c || d))) ≡ false → ((a ≡ false) × (b ≡ false)) × ((c ≡ false) × (d ≡ false))
-none-of false false false false e = ((refl, refl), (refl, refl))
-none-of false false false true e = absurd (let z : _≡_ {A = ℕ} 0 1 = cc in omega arith)
-none-of false false true d e = absurd (let z : _≡_ {A = ℕ} 0 1 = cc in omega arith)
-none-of false true c d e = absurd (let z : _≡_ {A = ℕ} 0 1 = cc in omega arith)
-none-of true b c d e = absurd (let z : _≡_ {A = ℕ} 0 1 = cc in omega arith)
-
-bare-whole : (t : List ℕ) (m : Name) (a : Array) (n : ℕ) → startsSuffix t n ≡ false → suffixedAt t (ok (bare m a) n) ≡ ok (bare m a) n
-unfolding startsSuffix withSuffix suffixAt setSuffix andThen mapped
-bare-whole t m a n h =
-    let w = tokenAt t n .word in
-    let e = none-of (isMark mark.Equals w) (isMark mark.At w) (isMark mark.PlusEquals w) (isMark mark.PercentEquals w) h in
-    rw (e .0 .0, e .0 .1, e .1 .0, e .1 .1)
+neither : (a b : Bool) → (a || b) ≡ false → (a ≡ false) × (b ≡ false)
+neither false false e = (refl, refl)
+neither false true e = absurd (let z : _≡_ {A = ℕ} 0 1 = cc in omega arith)
+neither true b e = absurd (let z : _≡_ {A = ℕ} 0 1 = cc in omega arith)
 
 -- the suffixes of an instance, one behind another
 module _ (t : List ℕ) (m : Name) (a : Array) (at : ℕ) where
-  pub suffixes-none : {b : Bool} {i : Instance} → b ≡ startsSuffix t at → b ≡ false → i ≡ bare m a → ok i at ≡ suffixedAt t (ok (bare m a) at)
-  suffixes-none f g h = rw h (sym (bare-whole t m a at (sym f ∙ g)))
+  module _ {x : SuffixReading} (e : suffixRead x ≡ looked t (suffixAt Reset t at)) where
+    pub reset-stop : {n q : ℕ} → x ≡ suffixReading.Refused n q → refused n q ≡ looked t (suffixedAt t (ok (bare m a) at))
+    unfolding withSuffix andThen mapped looked
+    reset-stop f = rw (← refused-at t (suffixAt Reset t at) (rw f at e))
 
-  module _ {x : SuffixReading} (e : suffixRead x ≡ suffixAt Reset t at) where
-    pub reset-stop : {n q : ℕ} → x ≡ suffixReading.Refused n q → stop n q ≡ suffixedAt t (ok (bare m a) at)
-    unfolding withSuffix andThen mapped
-    reset-stop f = rw (← e, f)
+    module _ {r : Suffix} {first : Ahead} {y : SuffixReading} (f : x ≡ suffixReading.Done r first)
+        (g : suffixRead y ≡ looked t (suffixAt Address t (first .at))) where
+      pub address-stop : {n q : ℕ} → y ≡ suffixReading.Refused n q → refused n q ≡ looked t (suffixedAt t (ok (bare m a) at))
+      unfolding withSuffix andThen mapped looked
+      address-stop h = rw (← found-at t (suffixAt Reset t at) (rw f at e) .0, ← refused-at t (suffixAt Address t (first .at)) (rw h at g))
 
-    pub reset-done : {r : Suffix} {n : ℕ} {y : Parsed Instance} → x ≡ suffixReading.Done r n → y ≡ placingAt t (ok (setSuffix Reset r (bare m a)) n) → y ≡ suffixedAt t (ok (bare m a) at)
-    unfolding withSuffix andThen mapped
-    reset-done f g = rw (← e, f) g
+      pub address-done : {d : Suffix} {second : Ahead} {z : Looked Instance} → y ≡ suffixReading.Done d second
+          → z ≡ looked t (spacingAt t (ok (placed m a r d) (second .at))) → z ≡ looked t (suffixedAt t (ok (bare m a) at))
+      unfolding withSuffix andThen mapped setSuffix
+      address-done h i =
+          rw (← found-at t (suffixAt Reset t at) (rw f at e) .0, ← found-at t (suffixAt Address t (first .at)) (rw h at g) .0) i
 
-  module _ (r : Suffix) {x : SuffixReading} (e : suffixRead x ≡ suffixAt Address t at) where
-    pub address-stop : {n q : ℕ} → x ≡ suffixReading.Refused n q → stop n q ≡ placingAt t (ok (setSuffix Reset r (bare m a)) at)
-    unfolding withSuffix andThen mapped
-    address-stop f = rw (← e, f)
+  module _ (r d : Suffix) {x : SuffixReading} (e : suffixRead x ≡ looked t (suffixAt Stride t at)) where
+    pub stride-stop : {n q : ℕ} → x ≡ suffixReading.Refused n q → refused n q ≡ looked t (spacingAt t (ok (placed m a r d) at))
+    unfolding withSuffix andThen mapped looked
+    stride-stop f = rw (← refused-at t (suffixAt Stride t at) (rw f at e))
 
-    module _ {d : Suffix} {first : ℕ} {y : SuffixReading} (f : x ≡ suffixReading.Done d first) (g : suffixRead y ≡ suffixAt Stride t first) where
-      pub stride-stop : {n q : ℕ} → y ≡ suffixReading.Refused n q → stop n q ≡ placingAt t (ok (setSuffix Reset r (bare m a)) at)
-      unfolding withSuffix andThen mapped
-      stride-stop h = rw (← e, f, ← g, h)
+    module _ {s : Suffix} {first : Ahead} {y : SuffixReading} (f : x ≡ suffixReading.Done s first)
+        (g : suffixRead y ≡ looked t (suffixAt Alignment t (first .at))) where
+      pub alignment-stop : {n q : ℕ} → y ≡ suffixReading.Refused n q → refused n q ≡ looked t (spacingAt t (ok (placed m a r d) at))
+      unfolding withSuffix andThen mapped looked
+      alignment-stop h =
+          rw (← found-at t (suffixAt Stride t at) (rw f at e) .0, ← refused-at t (suffixAt Alignment t (first .at)) (rw h at g))
 
-      module _ {s : Suffix} {second : ℕ} {z : SuffixReading} (h : y ≡ suffixReading.Done s second) (i : suffixRead z ≡ suffixAt Alignment t second) where
-        pub alignment-stop : {n q : ℕ} → z ≡ suffixReading.Refused n q → stop n q ≡ placingAt t (ok (setSuffix Reset r (bare m a)) at)
-        unfolding withSuffix andThen mapped
-        alignment-stop j = rw (← e, f, ← g, h, ← i, j)
+      pub alignment-done : {l : Suffix} {last : Ahead} {w : Instance} → y ≡ suffixReading.Done l last → w ≡ instanceOf m a r d s l
+          → found w last ≡ looked t (spacingAt t (ok (placed m a r d) at))
+      unfolding withSuffix andThen mapped setSuffix
+      alignment-done {l = l} {last = last} h i =
+          let behind = found-at t (suffixAt Alignment t (first .at)) (rw h at g) in
+          rw (i, ← found-at t (suffixAt Stride t at) (rw f at e) .0, ← behind .0) (still t last (behind .1) (instanceOf m a r d s l))
 
-        pub alignment-done : {l : Suffix} {last : ℕ} {w : Instance} → z ≡ suffixReading.Done l last → w ≡ instanceOf m a r d s l
-            → ok w last ≡ placingAt t (ok (setSuffix Reset r (bare m a)) at)
-        unfolding withSuffix andThen mapped setSuffix
-        alignment-done j k = rw (k, ← e, f, ← g, h, ← i, j)
+-- where the token ahead begins none, nothing is read
+module _ (t : List ℕ) (m : Name) (a : Array) (b : Ahead) (e : Stands t b) where
+  pub spacing-none : (r d : Suffix) {s : Bool} {i : Instance} → s ≡ startsSpacing (b .token .word) → s ≡ false → i ≡ placed m a r d
+      → found i b ≡ looked t (spacingAt t (ok (placed m a r d) (b .at)))
+  unfolding startsSpacing withSuffix suffixAt setSuffix andThen mapped
+  spacing-none r d f g h =
+      let w = tokenAt t (b .at) .word in
+      let none = neither (isMark mark.PlusEquals w) (isMark mark.PercentEquals w) (rw (stands-token t b e) at (sym f ∙ g)) in
+      rw (h, none .0, none .1) (still t b e (placed m a r d))
+
+  pub suffixes-none : {s : Bool} {i : Instance} → s ≡ startsSuffix (b .token .word) → s ≡ false → i ≡ bare m a
+      → found i b ≡ looked t (suffixedAt t (ok (bare m a) (b .at)))
+  unfolding startsSuffix startsSpacing withSuffix suffixAt setSuffix andThen mapped
+  suffixes-none f g h =
+      let w = tokenAt t (b .at) .word in
+      let reset = neither (isMark mark.Equals w) (isMark mark.At w || startsSpacing w) (rw (stands-token t b e) at (sym f ∙ g)) in
+      let address = neither (isMark mark.At w) (startsSpacing w) (reset .1) in
+      let spacing = neither (isMark mark.PlusEquals w) (isMark mark.PercentEquals w) (address .1) in
+      rw (h, reset .0, address .0, spacing .0, spacing .1) (still t b e (bare m a))
 
 -- a reading that becomes part of a larger one
 module _ (t : List ℕ) where
-  module _ (m : Name) (at : ℕ) {x : ArrayReading} (e : arrayRead x ≡ arrayAt t at) where
-    pub named-stop : {n q : ℕ} → x ≡ arrayReading.Refused n q → stop n q ≡ suffixedAt t (mapped (bare m) (arrayAt t at))
-    unfolding withSuffix andThen mapped
-    named-stop f = rw (← e, f)
+  module _ (m : Name) (at : ℕ) {b : Ahead} {x : ArrayReading} (e : b ≡ aheadAt t at) (f : arrayRead x ≡ looked t (arrayAt t (b .at))) where
+    pub named-stop : {n q : ℕ} → x ≡ arrayReading.Refused n q → refused n q ≡ looked t (suffixedAt t (mapped (bare m) (arrayAt t at)))
+    unfolding withSuffix andThen mapped looked aheadAt
+    named-stop g = rw (← refused-at t (arrayAt t at) (rw (e, g) at f))
 
-    pub named-done : {a : Array} {n : ℕ} {y : Parsed Instance} → x ≡ arrayReading.Done a n → y ≡ suffixedAt t (ok (bare m a) n) → y ≡ suffixedAt t (mapped (bare m) (arrayAt t at))
-    unfolding mapped
-    named-done f g = rw (← e, f) g
+    pub named-done : {a : Array} {c : Ahead} {y : Looked Instance} → x ≡ arrayReading.Done a c
+        → y ≡ looked t (suffixedAt t (ok (bare m a) (c .at))) → y ≡ looked t (suffixedAt t (mapped (bare m) (arrayAt t at)))
+    unfolding mapped aheadAt
+    named-done g h = rw (← found-at t (arrayAt t at) (rw (e, g) at f) .0) h
 
   module _ (at : ℕ) {x : NameReading} (e : nameRead x ≡ nameAt t at) where
-    pub name-stop : {q : ℕ} → x ≡ nameReading.Refused q → stop 3 q ≡ instanceAt t at
-    unfolding instanceAt bareAt withSuffix andThen
+    pub name-stop : {q : ℕ} → x ≡ nameReading.Refused q → refused 3 q ≡ looked t (instanceAt t at)
+    unfolding instanceAt bareAt withSuffix andThen looked
     name-stop f = rw (← e, f)
 
-    pub name-done : {m : Name} {n : ℕ} {y : Parsed Instance} → x ≡ nameReading.Done m n → y ≡ suffixedAt t (mapped (bare m) (arrayAt t n)) → y ≡ instanceAt t at
+    pub name-done : {m : Name} {n : ℕ} {y : Looked Instance} → x ≡ nameReading.Done m n
+        → y ≡ looked t (suffixedAt t (mapped (bare m) (arrayAt t n))) → y ≡ looked t (instanceAt t at)
     unfolding instanceAt bareAt andThen
     name-done f g = rw (← e, f) g
 
-  module _ (at : ℕ) {x : InstanceReading} (e : instanceRead x ≡ instanceAt t at) where
-    pub listed-stop : {m q : ℕ} → x ≡ instanceReading.Refused m q → stop m q ≡ listedAt t at
-    unfolding listedAt
-    listed-stop f = then-stop _ (rw f at e)
+  module _ (at : ℕ) {x : InstanceAheadReading} (e : instanceAheadRead x ≡ looked t (instanceAt t at)) where
+    pub instance-stop : {n q : ℕ} → x ≡ instanceAheadReading.Refused n q → stop n q ≡ instanceAt t at
+    instance-stop f = refused-at t (instanceAt t at) (rw f at e)
 
-    pub listed-more : {i : Instance} {n : ℕ} {y : Parsed ListItem} → x ≡ instanceReading.Done i n → y ≡ partedAt i t n → y ≡ listedAt t at
+    pub instance-done : {i : Instance} {b : Ahead} → x ≡ instanceAheadReading.Done i b → ok i (b .at) ≡ instanceAt t at
+    instance-done f = found-at t (instanceAt t at) (rw f at e) .0
+
+    pub listed-stop : {n q : ℕ} → x ≡ instanceAheadReading.Refused n q → stop n q ≡ listedAt t at
     unfolding listedAt
-    listed-more f g = g ∙ then-ok _ (rw f at e)
+    listed-stop f = then-stop _ (instance-stop f)
+
+    pub listed-more : {i : Instance} {b : Ahead} {y : Parsed ListItem} → x ≡ instanceAheadReading.Done i b → PartedBy i (b .token) y
+        → y ≡ listedAt t at
+    unfolding listedAt
+    listed-more {b = b} f g =
+        let behind = found-at t (instanceAt t at) (rw f at e) in
+        g .parted t (b .at) (stands-token t b (behind .1)) ∙ then-ok _ (behind .0)

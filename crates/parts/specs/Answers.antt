@@ -1,5 +1,6 @@
 -- What each reader's answer means as a reading: a stop that has no number is refusal 3.
 use Rattle.parts.specs.Reading.{Parsed, ok, stop}
+use Rattle.parts.specs.Ahead.{Looked, found, refused}
 use Rattle.parts.specs.declared.Name.{Name}
 use Rattle.parts.specs.declared.NameReading.{NameReading}
 use Rattle.parts.specs.declared.NameReading.the-variants as name
@@ -12,6 +13,8 @@ use Rattle.parts.specs.declared.SuffixReading.the-variants as suffix
 use Rattle.parts.specs.declared.Instance.{Instance}
 use Rattle.parts.specs.declared.InstanceReading.{InstanceReading}
 use Rattle.parts.specs.declared.InstanceReading.the-variants as instance
+use Rattle.parts.specs.declared.InstanceAheadReading.{InstanceAheadReading}
+use Rattle.parts.specs.declared.InstanceAheadReading.the-variants as instanceAhead
 use Rattle.parts.specs.declared.ListItem.{ListItem}
 use Rattle.parts.specs.declared.ListItemReading.{ListItemReading}
 use Rattle.parts.specs.declared.ListItemReading.the-variants as listed
@@ -29,13 +32,17 @@ abbrev pub nameRead : NameReading → Parsed Name
 nameRead (name.Done x next) = ok x next
 nameRead (name.Refused place) = stop 3 place
 
-abbrev pub arrayRead : ArrayReading → Parsed Array
-arrayRead (array.Done x next) = ok x next
-arrayRead (array.Refused n place) = stop n place
+abbrev pub arrayRead : ArrayReading → Looked Array
+arrayRead (array.Done x ahead) = found x ahead
+arrayRead (array.Refused n place) = refused n place
 
-abbrev pub suffixRead : SuffixReading → Parsed Suffix
-suffixRead (suffix.Done x next) = ok x next
-suffixRead (suffix.Refused n place) = stop n place
+abbrev pub suffixRead : SuffixReading → Looked Suffix
+suffixRead (suffix.Done x ahead) = found x ahead
+suffixRead (suffix.Refused n place) = refused n place
+
+abbrev pub instanceAheadRead : InstanceAheadReading → Looked Instance
+instanceAheadRead (instanceAhead.Done x ahead) = found x ahead
+instanceAheadRead (instanceAhead.Refused n place) = refused n place
 
 abbrev pub instanceRead : InstanceReading → Parsed Instance
 instanceRead (instance.Done x next) = ok x next

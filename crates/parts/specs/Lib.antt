@@ -1,4 +1,5 @@
 pub mod Reading
 pub mod Words
 pub mod Parts
+pub mod Ahead
 pub mod Answers

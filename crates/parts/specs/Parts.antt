@@ -1,5 +1,5 @@
 -- The parts of sentences (document 01, "Sentences"), each as a reader of the text at a cursor.
-use mathlib.Core.Bool.{Bool, true, false, _||_, _&&_}
+use mathlib.Core.Bool.{Bool, true, false, _&&_}
 use mathlib.Core.List.{List}
 use Prim.Native.Nat.{ℕ}
 use Rattle.basics.specs.Choice.{if_then_else_}
@@ -104,12 +104,6 @@ suffixedAt text p = placingAt text (withSuffix Reset text p)
 -- "An instance is a name, then optionally .., in that order"
 unfoldable pub instanceAt : List ℕ → ℕ → Parsed Instance
 instanceAt text at = suffixedAt text (bareAt text at)
-
--- whether a suffix stands there: where none does, a name with its array is the whole instance
-unfoldable pub startsSuffix : List ℕ → ℕ → Bool
-startsSuffix text at =
-    let w = tokenAt text at .word in
-    isMark (suffixMark Reset) w || (isMark (suffixMark Address) w || (isMark (suffixMark Stride) w || isMark (suffixMark Alignment) w))
 
 -- behind an instance: "parted by commas", and `;` behind the last
 unfoldable pub partedAt : Instance → List ℕ → ℕ → Parsed ListItem

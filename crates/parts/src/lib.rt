@@ -9,8 +9,9 @@ use vocabulary::Mark;
 ghost use mathlib.Core.Path.{_≡_};
 ghost use Rattle.expressions.specs.Reading.{ok, mapped};
 ghost use Rattle.parts.specs.Words.{roleOf, roleKind, roleDefault, roleProperty, roleValue, isName, kindOf, isKind, isDefault, isProperty, markNumber, isMark, isEnd};
-ghost use Rattle.parts.specs.Parts.{closedBy, nameAt, arrayRestAt, arrayAt, suffixMark, suffixAt, instanceOf, bare, setSuffix, startsSuffix, placingAt, suffixedAt, instanceAt, partedAt, listedAt, valueIn, valueAt, property, settingAt, propertyWordAt, propertyAt, headerRestAt, headerAt, isNamed, startsInstances};
-ghost use Rattle.parts.specs.Answers.{nameRead, arrayRead, suffixRead, instanceRead, listedRead, valueRead, propertyRead, headerRead};
+ghost use Rattle.parts.specs.Parts.{closedBy, nameAt, arrayRestAt, arrayAt, suffixMark, suffixAt, instanceOf, bare, suffixedAt, instanceAt, listedAt, valueIn, valueAt, property, settingAt, propertyWordAt, propertyAt, headerRestAt, headerAt, isNamed, startsInstances};
+ghost use Rattle.parts.specs.Ahead.{aheadAt, Stands, looked, placed, spacingAt, startsSpacing, startsSuffix, PartedBy};
+ghost use Rattle.parts.specs.Answers.{nameRead, arrayRead, suffixRead, instanceAheadRead, instanceRead, listedRead, valueRead, propertyRead, headerRead};
 
 // The kinds of component.
 pub enum Kind {
@@ -45,6 +46,12 @@ pub enum NameReading {
     Refused(usize),
 }
 
+// A cursor, and the token that stands there: whoever asks what follows need not read it again.
+pub struct Ahead {
+    pub at: usize,
+    pub token: Token,
+}
+
 // `[n]` or `[left:right]`, with the place of its first mark.
 pub enum Array {
     Missing,
@@ -53,7 +60,7 @@ pub enum Array {
 }
 
 pub enum ArrayReading {
-    Done(Array, usize),
+    Done(Array, Ahead),
     Refused(u8, usize),
 }
 
@@ -72,7 +79,7 @@ pub enum SuffixKind {
 }
 
 pub enum SuffixReading {
-    Done(Suffix, usize),
+    Done(Suffix, Ahead),
     Refused(u8, usize),
 }
 
@@ -88,6 +95,12 @@ pub struct Instance {
 
 pub enum InstanceReading {
     Done(Instance, usize),
+    Refused(u8, usize),
+}
+
+// The same with the token behind the instance.
+pub enum InstanceAheadReading {
+    Done(Instance, Ahead),
     Refused(u8, usize),
 }
 
@@ -379,26 +392,34 @@ pub fn read_name(text: &[u8], at: usize) -> NameReading
     NameReading::Refused(token.start)
 }
 
+// A cursor with the token that stands there.
+fn look(text: &[u8], at: usize) -> Ahead
+    ensures { λ r. ⌜ r ≡ aheadAt (now (text .entry)) at ⌝ }
+{
+    let token = lex::next_token(text, at);
+    Ahead { at, token }
+}
+
 // The closing bracket behind an array's numbers.
 fn close_array(text: &[u8], at: usize, array: Array) -> ArrayReading
-    ensures { λ r. ⌜ arrayRead r ≡ closedBy Mark.CloseBracket array (now (text .entry)) at ⌝ }
+    ensures { λ r. ⌜ arrayRead r ≡ looked (now (text .entry)) (closedBy Mark.CloseBracket array (now (text .entry)) at) ⌝ }
 {
     let token = lex::next_token(text, at);
     let word = token.word;
     if is_mark(word, Mark::CloseBracket) {
-        return ArrayReading::Done(array, token.end);
+        return ArrayReading::Done(array, look(text, token.end));
     }
     ArrayReading::Refused(3, token.start)
 }
 
 // What follows the first number of an array whose bracket stands at `bracket`.
 fn read_array_rest(text: &[u8], at: usize, bracket: usize, left: Number) -> ArrayReading
-    ensures { λ r. ⌜ arrayRead r ≡ arrayRestAt bracket left (now (text .entry)) at ⌝ }
+    ensures { λ r. ⌜ arrayRead r ≡ looked (now (text .entry)) (arrayRestAt bracket left (now (text .entry)) at) ⌝ }
 {
     let token = lex::next_token(text, at);
     let word = token.word;
     if is_mark(word, Mark::CloseBracket) {
-        return ArrayReading::Done(Array::Size(bracket, left), token.end);
+        return ArrayReading::Done(Array::Size(bracket, left), look(text, token.end));
     }
     if !is_mark(word, Mark::Colon) {
         return ArrayReading::Refused(3, token.start);
@@ -412,13 +433,14 @@ fn read_array_rest(text: &[u8], at: usize, bracket: usize, left: Number) -> Arra
 }
 
 // `[n]`, `[left:right]` or neither.
-fn read_array(text: &[u8], at: usize) -> ArrayReading
-    ensures { λ r. ⌜ arrayRead r ≡ arrayAt (now (text .entry)) at ⌝ }
+fn read_array(text: &[u8], ahead: Ahead) -> ArrayReading
+    requires { ⌜ Stands (now text) ahead ⌝ }
+    ensures { λ r. ⌜ arrayRead r ≡ looked (now (text .entry)) (arrayAt (now (text .entry)) (ahead .at)) ⌝ }
 {
-    let token = lex::next_token(text, at);
+    let token = ahead.token;
     let word = token.word;
     if !is_mark(word, Mark::OpenBracket) {
-        return ArrayReading::Done(Array::Missing, at);
+        return ArrayReading::Done(Array::Missing, ahead);
     }
     match expressions::read_number(text, token.end) {
         NumberReading::Done(left, next) => read_array_rest(text, next, token.start, left),
@@ -438,17 +460,18 @@ fn suffix_mark(kind: SuffixKind) -> Mark
 }
 
 // A suffix of one kind, or none.
-fn read_suffix(text: &[u8], at: usize, kind: SuffixKind) -> SuffixReading
-    ensures { λ r. ⌜ suffixRead r ≡ suffixAt kind (now (text .entry)) at ⌝ }
+fn read_suffix(text: &[u8], ahead: Ahead, kind: SuffixKind) -> SuffixReading
+    requires { ⌜ Stands (now text) ahead ⌝ }
+    ensures { λ r. ⌜ suffixRead r ≡ looked (now (text .entry)) (suffixAt kind (now (text .entry)) (ahead .at)) ⌝ }
 {
-    let token = lex::next_token(text, at);
+    let token = ahead.token;
     let word = token.word;
     if !is_mark(word, suffix_mark(kind)) {
-        return SuffixReading::Done(Suffix::Missing, at);
+        return SuffixReading::Done(Suffix::Missing, ahead);
     }
     match expressions::read_number(text, token.end) {
         NumberReading::Done(number, next) => {
-            SuffixReading::Done(Suffix::Given(token.start, number), next)
+            SuffixReading::Done(Suffix::Given(token.start, number), look(text, next))
         }
         NumberReading::Refused(number, place) => SuffixReading::Refused(number, place),
     }
@@ -475,68 +498,105 @@ fn instance_of(
     }
 }
 
-// Whether a suffix stands there.
-fn starts_suffix(text: &[u8], at: usize) -> bool
-    ensures { λ r. ⌜ r ≡ startsSuffix (now (text .entry)) at ⌝ }
+// Whether a word begins a stride or an alignment.
+fn starts_spacing(word: Word) -> bool
+    ensures { λ r. ⌜ r ≡ startsSpacing word ⌝ }
 {
-    let token = lex::next_token(text, at);
-    let word = token.word;
-    if is_mark(word, Mark::Equals) {
-        return true;
-    }
-    if is_mark(word, Mark::At) {
-        return true;
-    }
     if is_mark(word, Mark::PlusEquals) {
         return true;
     }
     is_mark(word, Mark::PercentEquals)
 }
 
-// The suffixes of an instance in order, behind its name and array. Where there is none, what stands there is looked at once.
-fn read_suffixes(text: &[u8], at: usize, name: Name, array: Array) -> InstanceReading
-    ensures { λ r. ⌜ instanceRead r ≡ suffixedAt (now (text .entry)) (ok (bare name array) at) ⌝ }
+// Whether a word begins a suffix.
+fn starts_suffix(word: Word) -> bool
+    ensures { λ r. ⌜ r ≡ startsSuffix word ⌝ }
 {
-    let none = Suffix::Missing;
-    if !starts_suffix(text, at) {
-        return InstanceReading::Done(instance_of(name, array, none, none, none, none), at);
+    if is_mark(word, Mark::Equals) {
+        return true;
     }
-    match read_suffix(text, at, SuffixKind::Reset) {
-        SuffixReading::Refused(number, place) => InstanceReading::Refused(number, place),
-        SuffixReading::Done(reset, next) => read_placing(text, next, name, array, reset),
+    if is_mark(word, Mark::At) {
+        return true;
     }
+    starts_spacing(word)
 }
 
-// The suffixes that place an instance, behind its reset.
-fn read_placing(text: &[u8], at: usize, name: Name, array: Array, reset: Suffix) -> InstanceReading
-    ensures { λ r. ⌜ instanceRead r ≡ placingAt (now (text .entry)) (ok (setSuffix SuffixKind.Reset reset (bare name array)) at) ⌝ }
+// The suffixes of an instance in order, behind its name and array. Where it has none, the token ahead says so at once.
+fn read_suffixes(text: &[u8], ahead: Ahead, name: Name, array: Array) -> InstanceAheadReading
+    requires { ⌜ Stands (now text) ahead ⌝ }
+    ensures { λ r. ⌜ instanceAheadRead r ≡ looked (now (text .entry)) (suffixedAt (now (text .entry)) (ok (bare name array) (ahead .at))) ⌝ }
 {
-    match read_suffix(text, at, SuffixKind::Address) {
-        SuffixReading::Refused(number, place) => InstanceReading::Refused(number, place),
-        SuffixReading::Done(address, first) => match read_suffix(text, first, SuffixKind::Stride) {
-            SuffixReading::Refused(number, place) => InstanceReading::Refused(number, place),
-            SuffixReading::Done(stride, second) => {
-                match read_suffix(text, second, SuffixKind::Alignment) {
-                    SuffixReading::Refused(number, place) => InstanceReading::Refused(
-                        number,
-                        place,
-                    ),
-                    SuffixReading::Done(alignment, last) => InstanceReading::Done(
-                        instance_of(name, array, reset, address, stride, alignment),
-                        last,
-                    ),
-                }
+    let token = ahead.token;
+    let word = token.word;
+    if !starts_suffix(word) {
+        let none = Suffix::Missing;
+        let instance = instance_of(name, array, none, none, none, none);
+        return InstanceAheadReading::Done(instance, ahead);
+    }
+    match read_suffix(text, ahead, SuffixKind::Reset) {
+        SuffixReading::Refused(number, place) => InstanceAheadReading::Refused(number, place),
+        SuffixReading::Done(reset, first) => match read_suffix(text, first, SuffixKind::Address) {
+            SuffixReading::Refused(number, place) => InstanceAheadReading::Refused(number, place),
+            SuffixReading::Done(address, second) => {
+                read_spacing(text, second, name, array, reset, address)
             }
         },
     }
 }
 
-fn read_named(text: &[u8], at: usize, name: Name) -> InstanceReading
-    ensures { λ r. ⌜ instanceRead r ≡ suffixedAt (now (text .entry)) (mapped (bare name) (arrayAt (now (text .entry)) at)) ⌝ }
+// The stride and alignment of an instance, behind its address. Few instances have either.
+fn read_spacing(
+    text: &[u8],
+    ahead: Ahead,
+    name: Name,
+    array: Array,
+    reset: Suffix,
+    address: Suffix,
+) -> InstanceAheadReading
+    requires { ⌜ Stands (now text) ahead ⌝ }
+    ensures { λ r. ⌜ instanceAheadRead r ≡ looked (now (text .entry)) (spacingAt (now (text .entry)) (ok (placed name array reset address) (ahead .at))) ⌝ }
 {
-    match read_array(text, at) {
-        ArrayReading::Done(array, next) => read_suffixes(text, next, name, array),
-        ArrayReading::Refused(number, place) => InstanceReading::Refused(number, place),
+    let token = ahead.token;
+    let word = token.word;
+    if !starts_spacing(word) {
+        let none = Suffix::Missing;
+        let instance = instance_of(name, array, reset, address, none, none);
+        return InstanceAheadReading::Done(instance, ahead);
+    }
+    match read_suffix(text, ahead, SuffixKind::Stride) {
+        SuffixReading::Refused(number, place) => InstanceAheadReading::Refused(number, place),
+        SuffixReading::Done(stride, first) => {
+            match read_suffix(text, first, SuffixKind::Alignment) {
+                SuffixReading::Refused(number, place) => InstanceAheadReading::Refused(
+                    number,
+                    place,
+                ),
+                SuffixReading::Done(alignment, last) => InstanceAheadReading::Done(
+                    instance_of(name, array, reset, address, stride, alignment),
+                    last,
+                ),
+            }
+        }
+    }
+}
+
+// What follows the name of an instance.
+fn read_named(text: &[u8], at: usize, name: Name) -> InstanceAheadReading
+    ensures { λ r. ⌜ instanceAheadRead r ≡ looked (now (text .entry)) (suffixedAt (now (text .entry)) (mapped (bare name) (arrayAt (now (text .entry)) at))) ⌝ }
+{
+    match read_array(text, look(text, at)) {
+        ArrayReading::Done(array, ahead) => read_suffixes(text, ahead, name, array),
+        ArrayReading::Refused(number, place) => InstanceAheadReading::Refused(number, place),
+    }
+}
+
+// An instance, and the token behind it.
+fn read_instance_ahead(text: &[u8], at: usize) -> InstanceAheadReading
+    ensures { λ r. ⌜ instanceAheadRead r ≡ looked (now (text .entry)) (instanceAt (now (text .entry)) at) ⌝ }
+{
+    match read_name(text, at) {
+        NameReading::Done(name, next) => read_named(text, next, name),
+        NameReading::Refused(place) => InstanceAheadReading::Refused(3, place),
     }
 }
 
@@ -544,17 +604,16 @@ fn read_named(text: &[u8], at: usize, name: Name) -> InstanceReading
 pub fn read_instance(text: &[u8], at: usize) -> InstanceReading
     ensures { λ r. ⌜ instanceRead r ≡ instanceAt (now (text .entry)) at ⌝ }
 {
-    match read_name(text, at) {
-        NameReading::Done(name, next) => read_named(text, next, name),
-        NameReading::Refused(place) => InstanceReading::Refused(3, place),
+    match read_instance_ahead(text, at) {
+        InstanceAheadReading::Done(instance, ahead) => InstanceReading::Done(instance, ahead.at),
+        InstanceAheadReading::Refused(number, place) => InstanceReading::Refused(number, place),
     }
 }
 
-// The mark behind an instance of a list.
-fn read_parted(text: &[u8], at: usize, instance: Instance) -> ListItemReading
-    ensures { λ r. ⌜ listedRead r ≡ partedAt instance (now (text .entry)) at ⌝ }
+// An instance of a list, by the token behind it.
+fn parted_by(instance: Instance, token: Token) -> ListItemReading
+    ensures { λ r. ⌜ PartedBy instance token (listedRead r) ⌝ }
 {
-    let token = lex::next_token(text, at);
     let word = token.word;
     if is_mark(word, Mark::Semicolon) {
         let listed = ListItem {
@@ -577,9 +636,12 @@ fn read_parted(text: &[u8], at: usize, instance: Instance) -> ListItemReading
 pub fn read_listed(text: &[u8], at: usize) -> ListItemReading
     ensures { λ r. ⌜ listedRead r ≡ listedAt (now (text .entry)) at ⌝ }
 {
-    match read_instance(text, at) {
-        InstanceReading::Done(instance, next) => read_parted(text, next, instance),
-        InstanceReading::Refused(number, place) => ListItemReading::Refused(number, place),
+    match read_instance_ahead(text, at) {
+        InstanceAheadReading::Done(instance, ahead) => {
+            let token = ahead.token;
+            parted_by(instance, token)
+        }
+        InstanceAheadReading::Refused(number, place) => ListItemReading::Refused(number, place),
     }
 }
 

@@ -14,7 +14,7 @@ use Rattle.fields.specs.declared.BitPlace.{BitPlace}
 use Rattle.fields.specs.declared.FieldAt.{FieldAt}
 use Rattle.components.specs.declared.Component.{Component}
 use Rattle.basics.specs.Slices.{cellOf, written}
-use Rattle.cells.specs.Cells.{filedAt, componentIn, firstIn, countIn, instanceRoom, openAt}
+use Rattle.cells.specs.Cells.{entriesAt, componentIn, firstIn, countIn, instanceRoom, size}
 use Rattle.cells.specs.Definitions.{Child, Definition, definitionOf}
 use Rattle.cells.specs.Decoded.{childIn}
 use Rattle.cells.specs.declared.ChildReading.{ChildReading}
@@ -150,15 +150,15 @@ pub record Running (text t : List ℕ) (e : Extent) (row : ℕ) (f f1 l l1 : Lis
   pub same : done ++ rowFields text (known text t e) next rest ≡ fieldsIn text t e row
 
 pub record RunWriting (text t : List ℕ) (row : ℕ) (f f1 l l1 : List ℕ) (first to i : ℕ) (next : BitPlace) (j : ℕ) : Type 0 where
-  pub high : to ≤ openAt
-  pub bits : next .0 + 64 * (to - i) ≤ 64 * openAt
-  pub few : j + (to - i) ≤ fieldLimit + openAt
+  pub high : to ≤ size
+  pub bits : next .0 + 64 * (to - i) ≤ 64 * size
+  pub few : j + (to - i) ≤ fieldLimit + size
   pub fields : length f1 ≡ length f
   pub labels : length l1 ≡ length l
   pub each : (e : Extent) → Ready text t e → row < e .rows → Running text t e row f f1 l l1 first to i next j
 
 module _ (text t : List ℕ) (row : ℕ) (f l : List ℕ) (first : ℕ) where
-  pub runs-start : {e : Extent} {from to : ℕ} → Ready text t e → row < e .rows → first ≤ fieldLimit → from ≡ filedAt + firstIn t row → to ≡ from + countIn t row
+  pub runs-start : {e : Extent} {from to : ℕ} → Ready text t e → row < e .rows → first ≤ fieldLimit → from ≡ entriesAt + firstIn t row → to ≡ from + countIn t row
       → RunWriting text t row f f l l first to from firstBit first
   runs-start {e} {from} {to} ready low h p q =
       let w : firstIn t row + countIn t row ≤ instanceRoom = ready-within text t e row ready low in

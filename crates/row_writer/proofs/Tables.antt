@@ -223,7 +223,7 @@ module _ (text t s log : List ℕ) (e : Extent) (row count : ℕ) (title : Name)
     logged-row : LogRow log i (visitAt (registersOf text t e row) i)
     logged-row = w .charted .logs .each i below
 
-    pub writing-ready : Ready text t e
+    writing-ready : Ready text t e
     writing-ready = w .charted .shaped .ready
 
     pub writing-cell : cellOf log (i * logWidth + 1) < definitionLimit

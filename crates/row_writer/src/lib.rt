@@ -15,9 +15,8 @@ ghost use Rattle.basics.specs.Limits.{definitionLimit, nestLimit, registerLimit
 ghost use Rattle.basics.specs.Slices.{cellOf, written};
 ghost use Rattle.cells.specs.Cells.{nameIn};
 ghost use Rattle.rows.specs.Rows.{nameCell, fieldCells, registerTable, pathTable, fieldTable, labelTable};
-ghost use Rattle.sizes.specs.Ready.{Ready};
 ghost use Rattle.map_walk.specs.Runs.{logWidth};
-ghost use Rattle.map_walk.specs.Walks.{registersOf};
+ghost use Rattle.map_walk.specs.Walks.{Shaped, registersOf};
 ghost use Rattle.overlaps.specs.Charted.{Charted};
 ghost use Rattle.row_writer.specs.Entries.{bytesIn, withField, widthsOf};
 ghost use Rattle.row_writer.specs.Writes.{namesIn, indicesIn, numbersIn, RunWrites, fieldsIn, entriesIn};
@@ -175,13 +174,14 @@ fn write_placed(
 fn write_run(
     text: &[u8],
     cells: &[u64],
+    shapes: &[u64],
     extent: Extent,
     row: usize,
     fields: &mut [u64],
     labels: &mut [u8],
     first: usize,
 ) -> usize
-    requires { ⌜ Ready (now text) (now cells) extent × (row < extent .rows) × (first ≤ fieldLimit) ⌝ }
+    requires { ⌜ Shaped (now text) (now cells) (now shapes) extent × (row < extent .rows) × (first ≤ fieldLimit) ⌝ }
     ensures { λ r. ⌜ RunWrites (now (fields .entry)) (now (fields .exit)) (now (labels .entry)) (now (labels .exit)) first (fieldsIn (now (text .entry)) (now (cells .entry)) extent row) r ⌝ }
 {
     let span = cells::instances_of(cells, row);
@@ -189,7 +189,7 @@ fn write_run(
     let mut next = BitPlace(0);
     let mut j = first;
     while i < span.to {
-        match cells::child_at(text, cells, i) {
+        match recall::child_at(text, cells, shapes, i) {
             ChildReading::Refused(_, _) => {
                 // never so: the cells hold readable instances
                 return j;
@@ -232,7 +232,7 @@ pub fn write_rows(
     while i < count {
         let row = basics::cell(log, i * map_walk::LOG_WIDTH + 1) as usize;
         write_path(text, log, i, title, paths);
-        let next = write_run(text, cells, extent, row, fields, labels, first);
+        let next = write_run(text, cells, shapes, extent, row, fields, labels, first);
         write_register(cells, log, i, first, next - first, registers);
         first = next;
         i += 1;

@@ -31,7 +31,7 @@ use Rattle.syntax.proofs.Derive.{then-steps, mapped-piece}
 use Rattle.basics.specs.Judged.{Judged, fault, fine, onward, found}
 use Rattle.properties.specs.Assigned.{nearest}
 use Rattle.basics.specs.declared.Given.the-variants.{Number}
-use Rattle.cells.specs.Cells.{rank, nameIn, belowIn}
+use Rattle.cells.specs.Cells.{entriesAt, rank, nameIn, belowIn}
 use Rattle.cells.specs.Definitions.{VisibleType}
 use Rattle.cells.specs.Relation.{block-end, Chain, chain-stop, chain-on}
 use Rattle.scopes.specs.Walks.{listedWalk, afterListing, openingWalk, innerScope, headAfter, mapAfter, afterBody}
@@ -45,7 +45,8 @@ use Rattle.scopes.specs.declared.ListJudged.the-variants as listJudged
 use Rattle.basics.specs.Limits.{definitionLimit}
 use Rattle.rules.specs.Judge.{State, Made, opening, withHeld, typesWith, lastOf, closed, declared, judgeInstances, judgeDefinition, judgeElem, judgeBody}
 use Rattle.rules.specs.Standing.{FitsText, Kept, sounds-end, Standing, matches-fault, matches-on, Moves, moves-fault, moves-on, Steps, Typed, Lists, Closed, BodyMatches, body-fault, body-on, BodyMoved, BodyMoves, body-stops, body-moves, HeaderFault, Tails, BodySteps}
-use Rattle.rules.proofs.Frames.{kept-same, kept-then, block-kept, chain-kept, chain-join, sounds-kept}
+use Rattle.rules.proofs.Frames.{kept-less, kept-same, kept-then, block-kept, chain-kept, chain-join, sounds-kept}
+use Rattle.name_tree.proofs.Growing.{linked-nothing, linked-kept}
 use Rattle.rules.proofs.Statements.{standing-listed, standing-held, listing-moves, listing-matches}
 
 never : {X A : Type 0} {n p m : ℕ} {a : A} → stop n p ≡ ok a m → X
@@ -92,7 +93,7 @@ module _ (text t : List ℕ) (scope : Scope) (h : Header) (w : Progress) (f : Fi
   unfolding tailAt
   tail-listing {u} {row} y a x z =
       let m : (isNamed (h .name) && isMark mark.Semicolon (tokenAt text (w .at) .word)) ≡ false = rw (← e) (sym g ∙ y) in
-      let kept = x .kept (w .closed) (w .filed) (omega (arith, f .closed, f .opened)) (omega (arith, f .room, f .inside, f .short)) in
+      let kept = x .kept (w .closed) (w .filed) (omega (arith, f .closed, f .opened)) (f .room) in
       record {
         kept = kept;
         moves = rw z (listing-moves f (omega arith) (x .moves));
@@ -128,6 +129,7 @@ module _ (text t : List ℕ) (scope : Scope) (w : Progress) (h : Header) (inside
         types = chain-stop;
         held = block-end;
         count = omega arith;
+        linked = linked-nothing;
         sound = sounds-end;
       }
 
@@ -187,6 +189,7 @@ module _ (text t : List ℕ) (scope : Scope) (w : Progress) (h : Header) (inside
             types = after-types (h .name) refl;
             held = block-kept (λ j a b. k .opens j (omega (arith, a)) (omega (arith, b, st .count))) (st .held);
             count = omega (arith, st .count, m .held);
+            linked = linked-kept (λ j a. k .opens (entriesAt + scope .first + j) (omega arith) (omega (arith, a, st .count))) (st .linked);
             sound = sounds-kept k (st .rows) (c .rows) (omega (arith, m .closed)) (st .sound);
           }
 
@@ -334,7 +337,7 @@ module _ (text t : List ℕ) (scope : Scope) (w : Progress) (bodies : ℕ) {x : 
         unfolding onward
         def-body {m} {p} z =
             record {
-              kept = b .kept;
+              kept = kept-less (b .kept) (g .first);
               moves = moves-fault;
               each = λ a n env s q st c.
                   let d = parts q in
@@ -374,7 +377,7 @@ module _ (text t : List ℕ) (scope : Scope) (w : Progress) (bodies : ℕ) {x : 
           tailed l =
               let k = def-moved in
               record {
-                kept = kept-then (b .kept) (l .kept) (omega (arith, k .closed)) (k .filed) (omega (arith, k .held));
+                kept = kept-then (kept-less (b .kept) (g .first)) (l .kept) (omega (arith, k .closed)) (k .filed) (omega arith);
                 moves = tail-moves (l .moves);
                 each = λ a n env s q st c.
                     let d = parts q in

@@ -18,7 +18,7 @@ use Rattle.properties.specs.declared.Settings.{Settings}
 use Rattle.components.specs.Components.{componentOf, kindOf}
 use Rattle.components.specs.declared.Component.{Component}
 use Rattle.basics.specs.Slices.{cellOf, written}
-use Rattle.cells.specs.Cells.{filedAt, openAt, size, valuesOf, valuesIn, valueCells, otherCells, componentIn, firstIn, nameIn, belowIn, moved, definitionWidth, instanceRoom}
+use Rattle.cells.specs.Cells.{entriesAt, size, valuesOf, valuesIn, valueCells, otherCells, componentIn, firstIn, nameIn, belowIn, moved, definitionWidth, instanceRoom}
 use Rattle.cells.specs.declared.Values.{Values}
 use Rattle.cells.specs.Definitions.{Child, Definition, noDefinition, nameOr}
 use Rattle.cells.specs.Relation.{Block, block-end, block-on, IsRow}
@@ -26,7 +26,7 @@ use Rattle.cells.proofs.Laws.{written-same, written-other, written-length, move
 use Rattle.closing_rules.specs.Registers.{closingFault}
 use Rattle.closing_rules.specs.Decoded.{closingIn}
 use Rattle.closing_rules.proofs.Laws.{stored-closing}
-use Rattle.scopes.specs.Walks.{rowOf, filedCells, closedWalk}
+use Rattle.scopes.specs.Walks.{firstFiled, rowOf, filedCells, closedWalk}
 use Rattle.scopes.specs.declared.Progress.{Progress}
 use Rattle.scopes.specs.declared.Scope.{Scope}
 use Rattle.scopes.specs.declared.Progressed.the-variants as progressed
@@ -44,7 +44,11 @@ block-moved {text} {t} {u} {i} {k} same (block-on {c = c} {cs = cs} e b) =
     (block-moved (λ j l. let x : k + suc j ≡ suc k + j = omega arith in let y : i + suc j ≡ suc i + j = omega arith in rw (x, y) at (same (suc j) (omega (arith, l)))) b)
 
 -- the cells of a definition that is filed: its row, and its instances moved
-module _ (t : List ℕ) (n f first count : ℕ) (vs os : List ℕ) (seven : length vs ≡ 7) (five : length os ≡ 5) (low : n < definitionLimit) (room : f + count ≤ instanceRoom) (few : first + count ≤ instanceRoom) where
+module _ (t : List ℕ) (n f first count : ℕ) (vs os : List ℕ) (seven : length vs ≡ 7) (five : length os ≡ 5) (low : n < definitionLimit) (room : f + (first + count) ≤ instanceRoom) where
+  -- where the instances come to stand
+  abbrev place : ℕ
+  place = entriesAt + (instanceRoom - (f + count))
+
   abbrev values-put : List ℕ
   values-put = written t (n * definitionWidth) vs
 
@@ -52,7 +56,7 @@ module _ (t : List ℕ) (n f first count : ℕ) (vs os : List ℕ) (seven : leng
   row-put = written values-put (n * definitionWidth + 7) os
 
   abbrev pub cells-filed : List ℕ
-  cells-filed = moved row-put (openAt + first) (filedAt + f) count
+  cells-filed = moved row-put (entriesAt + first) place count
 
   row-outside : (j : ℕ) → (n * definitionWidth ≤ j → n * definitionWidth + 12 ≤ j) → cellOf row-put j ≡ cellOf t j
   row-outside j h =
@@ -61,29 +65,29 @@ module _ (t : List ℕ) (n f first count : ℕ) (vs os : List ℕ) (seven : leng
   pub filed-kept : Kept t cells-filed n f first
   filed-kept =
       record {
-        long = moved-length row-put (openAt + first) (filedAt + f) count ∙ written-length values-put (n * definitionWidth + 7) os ∙ written-length t (n * definitionWidth) vs;
-        rows = λ j l. moved-other row-put (openAt + first) (filedAt + f) count j (λ k. absurd (omega (arith, k, l, low))) ∙ row-outside j (λ k. absurd (omega (arith, k, l)));
-        filed = λ j l k. moved-other row-put (openAt + first) (filedAt + f) count j (λ m. absurd (omega (arith, m, k))) ∙ row-outside j (λ m. omega (arith, l, low));
-        opens = λ j l k. moved-other row-put (openAt + first) (filedAt + f) count j (λ m. omega (arith, l, room)) ∙ row-outside j (λ m. omega (arith, l, low));
+        long = moved-length row-put (entriesAt + first) place count ∙ written-length values-put (n * definitionWidth + 7) os ∙ written-length t (n * definitionWidth) vs;
+        rows = λ j l. moved-other row-put (entriesAt + first) place count j (λ k. absurd (omega (arith, k, l, low))) ∙ row-outside j (λ k. absurd (omega (arith, k, l)));
+        filed = λ j l k. moved-other row-put (entriesAt + first) place count j (λ m. omega (arith, l, room)) ∙ row-outside j (λ m. omega (arith, l, low, room));
+        opens = λ j l k. moved-other row-put (entriesAt + first) place count j (λ m. absurd (omega (arith, k, m, room))) ∙ row-outside j (λ m. omega (arith, l, low));
       }
 
   module _ (long : size ≤ length t) where
     pub filed-value : (k : ℕ) → k < 7 → cellOf cells-filed (n * definitionWidth + k) ≡ getD vs k 0
     filed-value k l =
-        moved-other row-put (openAt + first) (filedAt + f) count (n * definitionWidth + k) (λ m. absurd (omega (arith, m, l, low))) ∙
+        moved-other row-put (entriesAt + first) place count (n * definitionWidth + k) (λ m. absurd (omega (arith, m, l, low))) ∙
         written-other values-put (n * definitionWidth + 7) os (n * definitionWidth + k) (λ m. absurd (omega (arith, m, l))) ∙
         written-same t (n * definitionWidth) vs k (omega (arith, seven, long, low)) (omega (arith, seven, l))
 
     pub filed-other : (k : ℕ) → k < 5 → cellOf cells-filed (n * definitionWidth + 7 + k) ≡ getD os k 0
     filed-other k l =
-        moved-other row-put (openAt + first) (filedAt + f) count (n * definitionWidth + 7 + k) (λ m. absurd (omega (arith, m, l, low))) ∙
+        moved-other row-put (entriesAt + first) place count (n * definitionWidth + 7 + k) (λ m. absurd (omega (arith, m, l, low))) ∙
         written-same values-put (n * definitionWidth + 7) os k (omega (arith, five, long, low, written-length t (n * definitionWidth) vs)) (omega (arith, five, l))
 
-    pub filed-moved : (k : ℕ) → k < count → cellOf cells-filed (filedAt + f + k) ≡ cellOf t (openAt + first + k)
+    pub filed-moved : (k : ℕ) → k < count → cellOf cells-filed (place + k) ≡ cellOf t (entriesAt + first + k)
     filed-moved k l =
-        moved-same row-put (openAt + first) (filedAt + f) count k (omega (arith, room))
-        (omega (arith, few, long, written-length values-put (n * definitionWidth + 7) os, written-length t (n * definitionWidth) vs)) l ∙
-        row-outside (openAt + first + k) (λ m. omega (arith, low))
+        moved-same row-put (entriesAt + first) place count k (omega (arith, room))
+        (omega (arith, room, long, written-length values-put (n * definitionWidth + 7) os, written-length t (n * definitionWidth) vs)) l ∙
+        row-outside (entriesAt + first + k) (λ m. omega (arith, low))
 
 values-of-cells : (u : List ℕ) (r : ℕ) (v : Values) → cellOf u (r * definitionWidth) ≡ v .kind → cellOf u (r * definitionWidth + 1) ≡ v .a → cellOf u (r * definitionWidth + 2) ≡ v .b → cellOf u (r * definitionWidth + 3) ≡ v .c
     → cellOf u (r * definitionWidth + 4) ≡ v .d → cellOf u (r * definitionWidth + 5) ≡ v .e → cellOf u (r * definitionWidth + 6) ≡ v .f → valuesIn u r ≡ v
@@ -115,10 +119,10 @@ kind-of-component kind.Reg s = refl
 kind-of-component kind.Field s = refl
 
 module _ (text t : List ℕ) (header : Header) (scope : Scope) (w : Progress) (brace next : ℕ) {c : Component} (e : c ≡ componentOf (header .kind) (nearest (w .assigned .own) (scope .defaults)))
-    {n : ℕ} (f : n ≡ closingIn text t (openAt + scope .first) (openAt + w .held) c) where
+    {n : ℕ} (f : n ≡ closingIn text t (entriesAt + scope .first) (entriesAt + w .held) c) where
   fault-of : (s : State) → Standing text t scope w s → n ≡ closingFault (s .known .table) (componentOf (header .kind) (nearest (s .assigned .own) (scope .defaults))) (s .held)
   fault-of s st =
-      let z : openAt + scope .first + length (s .held) ≡ openAt + w .held = omega (arith, st .count) in
+      let z : entriesAt + scope .first + length (s .held) ≡ entriesAt + w .held = omega (arith, st .count) in
       let a = f ∙ stored-closing c (rw z at (stored-of (st .rows) (st .held) (st .sound))) in
       rw (e, st .assigned) at a
 
@@ -135,27 +139,24 @@ module _ (text t : List ℕ) (header : Header) (scope : Scope) (w : Progress) (b
     low : w .closed < definitionLimit
     low = omega (arith, g .opened, o)
 
-    room : w .filed + (w .held - scope .first) ≤ instanceRoom
-    room = omega (arith, g .room, g .inside, g .short)
-
-    few : scope .first + (w .held - scope .first) ≤ instanceRoom
-    few = omega (arith, g .room, g .inside, g .short, g .first)
+    room : w .filed + (scope .first + (w .held - scope .first)) ≤ instanceRoom
+    room = omega (arith, g .room, g .inside, g .short, g .first)
 
     abbrev after : List ℕ
-    after = cells-filed t (w .closed) (w .filed) (scope .first) (w .held - scope .first) (valueCells (valuesOf c)) (otherCells (rowOf header scope w c)) refl refl low room few
+    after = cells-filed t (w .closed) (w .filed) (scope .first) (w .held - scope .first) (valueCells (valuesOf c)) (otherCells (rowOf header scope w c)) refl refl low room
 
     after-kept : Kept t after (w .closed) (w .filed) (scope .first)
-    after-kept = filed-kept t (w .closed) (w .filed) (scope .first) (w .held - scope .first) (valueCells (valuesOf c)) (otherCells (rowOf header scope w c)) refl refl low room few
+    after-kept = filed-kept t (w .closed) (w .filed) (scope .first) (w .held - scope .first) (valueCells (valuesOf c)) (otherCells (rowOf header scope w c)) refl refl low room
 
     module _ (s : State) (st : Standing text t scope w s) where
       value-cell : (k : ℕ) → k < 7 → cellOf after (w .closed * definitionWidth + k) ≡ getD (valueCells (valuesOf c)) k 0
-      value-cell = filed-value t (w .closed) (w .filed) (scope .first) (w .held - scope .first) (valueCells (valuesOf c)) (otherCells (rowOf header scope w c)) refl refl low room few (st .long)
+      value-cell = filed-value t (w .closed) (w .filed) (scope .first) (w .held - scope .first) (valueCells (valuesOf c)) (otherCells (rowOf header scope w c)) refl refl low room (st .long)
 
       other-cell : (k : ℕ) → k < 5 → cellOf after (w .closed * definitionWidth + 7 + k) ≡ getD (otherCells (rowOf header scope w c)) k 0
-      other-cell = filed-other t (w .closed) (w .filed) (scope .first) (w .held - scope .first) (valueCells (valuesOf c)) (otherCells (rowOf header scope w c)) refl refl low room few (st .long)
+      other-cell = filed-other t (w .closed) (w .filed) (scope .first) (w .held - scope .first) (valueCells (valuesOf c)) (otherCells (rowOf header scope w c)) refl refl low room (st .long)
 
-      moved-cell : (k : ℕ) → k < w .held - scope .first → cellOf after (filedAt + w .filed + k) ≡ cellOf t (openAt + scope .first + k)
-      moved-cell = filed-moved t (w .closed) (w .filed) (scope .first) (w .held - scope .first) (valueCells (valuesOf c)) (otherCells (rowOf header scope w c)) refl refl low room few (st .long)
+      moved-cell : (k : ℕ) → k < w .held - scope .first → cellOf after (entriesAt + firstFiled scope w + k) ≡ cellOf t (entriesAt + scope .first + k)
+      moved-cell = filed-moved t (w .closed) (w .filed) (scope .first) (w .held - scope .first) (valueCells (valuesOf c)) (otherCells (rowOf header scope w c)) refl refl low room (st .long)
 
       values-filed : valuesIn after (w .closed) ≡ valuesOf c
       values-filed =
@@ -167,7 +168,7 @@ module _ (text t : List ℕ) (header : Header) (scope : Scope) (w : Progress) (b
       other : (k i : ℕ) → k < 5 → w .closed * definitionWidth + 7 + k ≡ i → cellOf after i ≡ getD (otherCells (rowOf header scope w c)) k 0
       other k i l z = rw z at (other-cell k l)
 
-      first-filed : firstIn after (w .closed) ≡ w .filed
+      first-filed : firstIn after (w .closed) ≡ firstFiled scope w
       first-filed = other 0 (w .closed * definitionWidth + 7) (omega arith) (omega arith)
 
       abbrev filed : Definition
@@ -189,7 +190,8 @@ module _ (text t : List ℕ) (header : Header) (scope : Scope) (w : Progress) (b
             component = component-filed;
             instances = rw first-filed (block-moved (λ j l. moved-cell j (omega (arith, l, st .count))) (st .held));
             count = other 1 (w .closed * definitionWidth + 8) (omega arith) (omega arith) ∙ (omega (arith, st .count));
-            within = rw first-filed (omega (arith, st .count));
+            behind = rw first-filed (omega (arith, room));
+            within = rw first-filed (omega (arith, room, st .count));
           }
 
       last-filed : getD (s .known .table ++ (filed ∷ [])) (w .closed) noDefinition ≡ filed

@@ -15,7 +15,7 @@ use Rattle.identifiers.specs.Names.{sameName}
 use Rattle.basics.specs.declared.Given.the-variants.{Number}
 use Rattle.components.specs.Components.{kindOf}
 use Rattle.basics.specs.Slices.{cellOf}
-use Rattle.cells.specs.Cells.{valuesIn, firstIn, belowIn, definitionWidth}
+use Rattle.cells.specs.Cells.{valuesIn, firstIn, belowIn, definitionWidth, placeIn, rowIn}
 use Rattle.cells.specs.Definitions.{Child, Definition, definitionOf, VisibleType, lookup}
 use Rattle.cells.specs.Relation.{IsEntry, Block, block-end, block-on, IsRow, Holds, Chain, chain-stop, chain-on}
 use Rattle.closing_rules.specs.Relation.{HeldBetween, stored-end, stored-on}
@@ -29,14 +29,26 @@ kept-then a b p q r =
     record {
       long = b .long ∙ a .long;
       rows = λ j l. b .rows j (omega (arith, l, p)) ∙ a .rows j l;
-      filed = λ j l k. b .filed j l (omega (arith, k, q)) ∙ a .filed j l k;
+      filed = λ j l k. b .filed j (omega (arith, l, q)) k ∙ a .filed j l k;
       opens = λ j l k. b .opens j l (omega (arith, k, r)) ∙ a .opens j l k;
     }
+
+pub kept-less : {t u : List ℕ} {n f h g : ℕ} → Kept t u n f h → g ≤ h → Kept t u n f g
+kept-less a r = record { long = a .long; rows = a .rows; filed = a .filed; opens = λ j l k. a .opens j l (omega (arith, k, r)) }
 
 pub block-kept : {text t u : List ℕ} {i : ℕ} {cs : List Child} → ((j : ℕ) → i ≤ j → j < i + length cs → cellOf u j ≡ cellOf t j) → Block text t i cs → Block text u i cs
 block-kept same block-end = block-end
 block-kept {text} {i = i} same (block-on {c = c} {cs = cs} e b) =
     block-on {i = i} {c = c} {cs = cs} (rw (same i (omega arith) (omega arith)) e) (block-kept (λ j l k. same j (omega (arith, l)) (omega (arith, k))) b)
+
+-- cells of open bodies that have other links hold the same instances
+pub block-alike : {text t u : List ℕ} {i : ℕ} {cs : List Child} → ((j : ℕ) → i ≤ j → j < i + length cs → (placeIn (cellOf u j) ≡ placeIn (cellOf t j)) × (rowIn (cellOf u j) ≡ rowIn (cellOf t j)))
+    → Block text t i cs → Block text u i cs
+block-alike same block-end = block-end
+block-alike {text} {i = i} same (block-on {c = c} {cs = cs} e b) =
+    let w = same i (omega arith) (omega arith) in
+    block-on {i = i} {c = c} {cs = cs} (record { next = e .next; reads = rw (w .0) (e .reads); starts = w .0 ∙ e .starts; type = w .1 ∙ e .type })
+    (block-alike (λ j l k. same j (omega (arith, l)) (omega (arith, k))) b)
 
 -- one instance more
 pub block-more : {text t : List ℕ} {i : ℕ} {cs : List Child} {c : Child} → Block text t i cs → IsEntry text (cellOf t (i + length cs)) c → Block text t i (cs ++ (c ∷ []))
@@ -54,13 +66,14 @@ row-kept {text} {t} {u} {n} {f} k r {d} l w =
     record {
       name = rw (k .rows (r * definitionWidth + 9) (omega arith), k .rows (r * definitionWidth + 10) (omega arith)) (w .name);
       component = rw (values-kept k r l) (w .component);
-      instances = rw e (block-kept (λ j a b. k .filed j (omega (arith, a)) (omega (arith, b, w .within))) (w .instances));
+      instances = rw e (block-kept (λ j a b. k .filed j (omega (arith, a, w .behind)) (omega (arith, b, w .within))) (w .instances));
       count = k .rows (r * definitionWidth + 8) (omega arith) ∙ w .count;
+      behind = rw e (w .behind);
       within = rw e (w .within);
     }
 
 pub row-later : {text t : List ℕ} {f g : ℕ} {r : ℕ} {d : Definition} → f ≤ g → IsRow text t f r d → IsRow text t g r d
-row-later l w = record { name = w .name; component = w .component; instances = w .instances; count = w .count; within = omega (arith, l, w .within) }
+row-later l w = record { name = w .name; component = w .component; instances = w .instances; count = w .count; behind = omega (arith, l, w .behind); within = w .within }
 
 pub holds-kept : {text t u : List ℕ} {n f h : ℕ} {table : List Definition} → Kept t u n f h → Holds text t n f table → Holds text u n f table
 holds-kept k w = record { count = w .count; each = λ r l. row-kept k r l (w .each r l) }

@@ -26,6 +26,7 @@ use Rattle.syntax.proofs.Derive.{then-steps, Lists as Derived, lists-last, list
 use Rattle.basics.specs.Judged.{Judged, fault, fine}
 use Rattle.cells.specs.Cells.{instanceRoom, entryPlaces}
 use Rattle.cells.specs.Definitions.{Child, Definition}
+use Rattle.name_tree.proofs.InstanceName.{instance-named, begins-inside}
 use Rattle.scopes.specs.declared.Scope.{Scope}
 use Rattle.scopes.specs.declared.ListJudged.the-variants as listJudged
 use Rattle.rules.specs.Judge.{judgeInstances}
@@ -74,7 +75,8 @@ pub record Rest (text t : List ℕ) (scope : Scope) (row : ℕ) (kind : Kind) (a
 pub record Going (text t₀ t : List ℕ) (scope : Scope) (row : ℕ) (kind : Kind) (start before at held : ℕ) : Type 0 where
   pub low : before ≤ held
   pub room : 2 * held + start ≤ 2 * before + at
-  pub kept : (n f : ℕ) → n ≤ definitionLimit → f ≤ instanceRoom → Kept t₀ t n f before
+  pub long : length t ≡ length t₀
+  pub kept : (n f : ℕ) → n ≤ definitionLimit → 2 * (f + before) ≤ start → Kept t₀ t n f (scope .first)
   pub each : (is : List Instance) (n : ℕ) (table : List Definition) (cs : List Child) → instancesAt text start ≡ ok is n → Typed table row kind
       → HeldList text t₀ (scope .first) table before cs → Rest text t scope row kind at held n table (judgeInstances text (scope .enclosing) kind row is cs)
 
@@ -84,6 +86,7 @@ module _ (text t₀ : List ℕ) (scope : Scope) (row : ℕ) (kind : Kind) (start
       record {
         low = omega arith;
         room = omega arith;
+        long = refl;
         kept = λ n f a b. kept-same;
         each = λ is n table cs q typed l. record { left = is; children = cs; reads = instances-lists text start q; listed = l; same = refl };
       }
@@ -118,8 +121,8 @@ module _ (text t₀ : List ℕ) (scope : Scope) (row : ℕ) (kind : Kind) (start
       pub item-falls : length text - next < length text - at
       item-falls = omega (arith, item-read .past, item-read .inside)
 
-      pub item-low : length text ≤ textLimit → at < entryPlaces
-      item-low p = omega (arith, p, item-read .past, item-read .inside)
+      pub item-low : length text ≤ textLimit → l .instance .name .start < entryPlaces
+      item-low p = let b = begins-inside text at (instance-named text at (item-read .instance-read)) in omega (arith, p, b)
 
       -- the list starts with this instance
       record Head (is : List Instance) (n : ℕ) : Type 0 where
@@ -145,29 +148,30 @@ module _ (text t₀ : List ℕ) (scope : Scope) (row : ℕ) (kind : Kind) (start
         next-one : {others : List Instance} {ds : List Child} → (l .last ≡ true → (others ≡ []) × (n ≡ next)) → (l .last ≡ false → Derived text next others n)
             → HeldList text u (scope .first) table (suc held) ds → judgeInstances text (scope .enclosing) kind row others ds ≡ answer → Next u n table answer None
 
-      module _ {u : List ℕ} {r : Fault} (a : Adds text t u scope row kind at held (l .instance) r) where
-        keeps : (n f : ℕ) → n ≤ definitionLimit → f ≤ instanceRoom → Kept t₀ u n f before
-        keeps n f p q = kept-then (g .kept n f p q) (a .kept n f p q) (omega arith) (omega arith) (g .low)
+      module _ {u : List ℕ} {r : Fault} (a : Adds text t u scope row kind held (l .instance) r) where
+        keeps : length text ≤ textLimit → (n f : ℕ) → n ≤ definitionLimit → 2 * (f + before) ≤ start → Kept t₀ u n f (scope .first)
+        keeps s n f p q =
+            kept-then (g .kept n f p q) (a .kept n f p (omega (arith, s, q, g .room, item-read .past, item-read .inside))) (omega arith) (omega arith) (omega arith)
 
         pub going-long : length u ≡ length t₀
-        going-long = keeps 0 0 (omega arith) (omega arith) .long
+        going-long = a .long ∙ g .long
 
         step : (is : List Instance) (n : ℕ) (table : List Definition) (cs : List Child) → instancesAt text start ≡ ok is n → Typed table row kind
             → HeldList text t₀ (scope .first) table before cs → Next u n table (judgeInstances text (scope .enclosing) kind row is cs) r
         step is n table cs q typed b =
             let w = g .each is n table cs q typed b in
             let h = head (w .reads) in
-            by h (rw (h .whole) at (w .same)) (a .each (item-read .behind) table (w .children) (item-read .instance-read) typed (w .listed))
+            by h (rw (h .whole) at (w .same)) (a .each at (item-read .behind) table (w .children) (item-read .instance-read) typed (w .listed))
           where
             by : {is′ : List Instance} {ds : List Child} {r : Fault} (h : Head is′ n) → judgeInstances text (scope .enclosing) kind row (l .instance ∷ h .others) ds ≡ judgeInstances text (scope .enclosing) kind row is cs
                 → Added text u scope row kind held (l .instance) table ds r → Next u n table (judgeInstances text (scope .enclosing) kind row is cs) r
             by h e (added-not d) = next-not (sym (d (h .others)) ∙ e)
             by h e (added-one {ds = ds} c d) = next-one {others = h .others} {ds = ds} (h .none) (h .more) c (sym (d (h .others)) ∙ e)
 
-        pub going-broken : {m p : ℕ} → r ≡ Refused m p → Lists text t₀ u scope row kind start before (listJudged.Refused m p)
-        going-broken {m} {p} y =
+        pub going-broken : {m p : ℕ} → length text ≤ textLimit → r ≡ Refused m p → Lists text t₀ u scope row kind start before (listJudged.Refused m p)
+        going-broken {m} {p} s y =
             record {
-              kept = keeps;
+              kept = keeps s;
               moves = list-stops;
               each = λ is n table cs q typed b. by y (step is n table cs q typed b);
             }
@@ -176,11 +180,11 @@ module _ (text t₀ : List ℕ) (scope : Scope) (row : ℕ) (kind : Kind) (start
             by e (next-not {m = m′} {p = p′} z) = let a : m′ ≡ m = cc in let b : p′ ≡ p = cc in rw (← z, a, b) list-fault
             by e (next-one p q c d) = absurd (let z : _≡_ {A = ℕ} 0 1 = cc in omega arith)
 
-        pub going-last : r ≡ None → l .last ≡ true → Lists text t₀ u scope row kind start before (listJudged.Done (held + 1) next)
+        pub going-last : length text ≤ textLimit → r ≡ None → l .last ≡ true → Lists text t₀ u scope row kind start before (listJudged.Done (held + 1) next)
         unfolding judgeInstances
-        going-last y z =
+        going-last s y z =
             record {
-              kept = keeps;
+              kept = keeps s;
               moves = list-moves {held = held + 1} {at = next} (omega (arith, g .low)) (item-read .inside) (omega (arith, g .room, item-read .past));
               each = λ is n table cs q typed b. by y (step is n table cs q typed b);
             }
@@ -193,12 +197,13 @@ module _ (text t₀ : List ℕ) (scope : Scope) (row : ℕ) (kind : Kind) (start
                 let w : fine ds ≡ answer = (rw (o .0) at d) in
                 rw (← w, ← o .1, ← s) (list-done c)
 
-        pub going-more : r ≡ None → l .last ≡ false → Going text t₀ u scope row kind start before next (held + 1)
-        going-more y z =
+        pub going-more : length text ≤ textLimit → r ≡ None → l .last ≡ false → Going text t₀ u scope row kind start before next (held + 1)
+        going-more s y z =
             record {
               low = omega (arith, g .low);
               room = omega (arith, g .room, item-read .past);
-              kept = keeps;
+              long = going-long;
+              kept = keeps s;
               each = λ is n table cs q typed b. by y (step is n table cs q typed b);
             }
           where

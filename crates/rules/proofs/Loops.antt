@@ -35,6 +35,7 @@ use Rattle.scopes.specs.declared.Ruling.the-variants as ruling
 use Rattle.rules.specs.Judge.{State, Made, opening, Meaning, meaningOf, closed, judgeElem, judgeBody, judgeFile, judge}
 use Rattle.rules.specs.Standing.{FitsText, Kept, sounds-end, Standing, Matches, matches-fault, matches-on, Moved, Moves, moves-fault, moves-on, Steps, BodyMatches, body-fault, BodyMoves, body-stops, body-moves, Closing, BodySteps, FileMatches, file-fault, file-map, Rules}
 use Rattle.rules.proofs.Frames.{kept-same, kept-then, chain-kept}
+use Rattle.name_tree.proofs.Growing.{linked-nothing}
 
 -- what an answer of a step says
 record Went (text u : List ℕ) (scope : Scope) (n : ℕ) (j : Judged State) (v : Progress) : Type 0 where
@@ -152,7 +153,7 @@ module _ (text t₀ : List ℕ) (header : Header) (scope : Scope) (bodies : ℕ)
       unfolding judgeBody onward
       body-faults {m} {q} y =
           record {
-            kept = kept-then (g .kept) (v .kept) (g .closed) (g .filed) (g .fits .first);
+            kept = kept-then (g .kept) (v .kept) (g .closed) (g .filed) (omega arith);
             moves = body-stops;
             each = λ b n env s o st c. let l = g .each b n env s o st c in faulted env (l .reads) (l .stands) (l .types) (l .same);
           }
@@ -173,7 +174,7 @@ module _ (text t₀ : List ℕ) (header : Header) (scope : Scope) (bodies : ℕ)
           record {
             fits = m .fits;
             inner = omega (arith, m .gap, g .inner);
-            kept = kept-then (g .kept) (v .kept) (g .closed) (g .filed) (g .fits .first);
+            kept = kept-then (g .kept) (v .kept) (g .closed) (g .filed) (omega arith);
             at = omega (arith, m .past, g .at);
             closed = omega (arith, m .closed, g .closed);
             filed = omega (arith, m .filed, g .filed);
@@ -256,6 +257,7 @@ module _ (text t₀ : List ℕ) where
                     types = chain-stop;
                     held = block-end;
                     count = refl;
+                    linked = linked-nothing;
                     sound = sounds-end;
                   };
               same = refl;

@@ -45,7 +45,7 @@ never e = absurd (let z : _≡_ {A = ℕ} 0 1 = cc in omega arith)
 
 -- the instances of a body, where it stands
 pub standing-listed : {text t : List ℕ} {scope : Scope} {w : Progress} {s : State} → Standing text t scope w s → HeldList text t (scope .first) (s .known .table) (w .held) (s .held)
-standing-listed st = record { long = st .long; block = st .held; count = st .count; sound = st .sound }
+standing-listed st = record { long = st .long; block = st .held; count = st .count; linked = st .linked; sound = st .sound }
 
 -- what is known behind a list of instances
 pub standing-held : {text t u : List ℕ} {scope : Scope} {w : Progress} {s : State} {h : ℕ} {held n : ℕ} {cs : List Child} → Standing text t scope w s → w .head ≤ w .closed → Kept t u (w .closed) (w .filed) h
@@ -60,6 +60,7 @@ standing-held st l k c =
       types = chain-kept k l (st .types);
       held = c .block;
       count = c .count;
+      linked = c .linked;
       sound = c .sound;
     }
 
@@ -109,7 +110,7 @@ module _ (text t : List ℕ) (scope : Scope) (w : Progress) (name : Name) (next 
   unfolding judgeUse
   uses-listing {u} {d} {kind} {l} e k x y =
       let f = a .fits in
-      let kept = x .kept (w .closed) (w .filed) (omega (arith, f .closed, f .opened)) (omega (arith, f .room, f .inside, f .short)) in
+      let kept = x .kept (w .closed) (w .filed) (omega (arith, f .closed, f .opened)) (omega (arith, f .room, a .past)) in
       record {
         kept = kept;
         moves = rw y (listing-moves f (omega (arith, a .past)) (x .moves));
@@ -194,6 +195,7 @@ module _ (text t : List ℕ) (scope : Scope) (w : Progress) where
             types = st .types;
             held = st .held;
             count = st .count;
+            linked = st .linked;
             sound = st .sound;
           }
 

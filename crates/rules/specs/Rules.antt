@@ -14,7 +14,7 @@ use Rattle.syntax.specs.Tree.{Body}
 use Rattle.syntax.specs.Grammar.{fileAt}
 use Rattle.basics.specs.Judged.{Judged, fault, fine}
 use Rattle.basics.specs.Slices.{cellOf}
-use Rattle.cells.specs.Cells.{filedAt, instanceRoom, componentIn, firstIn, countIn, nameIn, placeIn, rowIn}
+use Rattle.cells.specs.Cells.{entriesAt, instanceRoom, componentIn, firstIn, countIn, nameIn, placeIn, rowIn}
 use Rattle.cells.specs.Definitions.{Child, Definition}
 use Rattle.cells.specs.Relation.{Holds}
 use Rattle.scopes.specs.declared.Ruling.{Ruling}
@@ -58,7 +58,7 @@ instancesIn text t i (suc count) = withInstance (rowIn (cellOf t i)) (instanceAt
 
 -- the definition of a row
 abbrev pub definitionIn : List ℕ → List ℕ → ℕ → Definition
-definitionIn text t r = record { name = nameIn t r; component = componentIn t r; instances = instancesIn text t (filedAt + firstIn t r) (countIn t r) }
+definitionIn text t r = record { name = nameIn t r; component = componentIn t r; instances = instancesIn text t (entriesAt + firstIn t r) (countIn t r) }
 
 -- the definitions of `count` rows from the row `r` on
 unfoldable pub definitionsIn : List ℕ → List ℕ → ℕ → ℕ → List Definition

@@ -1,6 +1,6 @@
 -- What the code knows at a place of a text, and what it stands for.
 use mathlib.Core.Path.{_≡_}
-use mathlib.Core.Bool.{not, _||_}
+use mathlib.Core.Bool.{Bool, false, not, _||_}
 use mathlib.Core.List.{List, [], _∷_}
 use Prim.Native.Nat.{ℕ, suc, _+_, _*_, _<_, _≤_}
 use lib.Dec.{leb}
@@ -17,18 +17,19 @@ use Rattle.basics.specs.declared.Fault.{Fault}
 use Rattle.basics.specs.declared.Fault.the-variants.{None, Refused}
 use Rattle.syntax.specs.Tree.{Elem, Body}
 use Rattle.syntax.specs.Grammar.{instancesAt, tailAt, fileAt}
-use Rattle.identifiers.specs.Names.{isAmong}
 use Rattle.basics.specs.Judged.{Judged, fault, fine, unless, onward, found}
 use Rattle.basics.specs.declared.Given.{Given}
 use Rattle.basics.specs.declared.Given.the-variants.{Number}
 use Rattle.components.specs.Components.{kindOf}
 use Rattle.basics.specs.Slices.{cellOf}
-use Rattle.cells.specs.Cells.{filedAt, openAt, size, instanceRoom, nameIn, belowIn, definitionWidth}
-use Rattle.cells.specs.Definitions.{Child, Definition, definitionOf, namesOf, nameOr, VisibleType}
+use Rattle.cells.specs.Cells.{entriesAt, size, instanceRoom, nameIn, belowIn, definitionWidth}
+use Rattle.cells.specs.Definitions.{Child, Definition, definitionOf, nameOr, VisibleType}
 use Rattle.cells.specs.Relation.{Block, Holds, Chain}
+use Rattle.name_tree.specs.Tree.{Linked}
 use Rattle.basics.specs.Limits.{definitionLimit, textLimit}
 use Rattle.rules.specs.Judge.{State, Made, typeTwice, namePlace, lastOf, withHeld, closed, Meaning, judge, judgeUse, judgeInstances, judgeElem, judgeBody}
 use Rattle.scopes.specs.Places.{mayDefine, mayHold, isBadMap}
+use Rattle.scopes.specs.declared.Enclosing.{Enclosing}
 use Rattle.scopes.specs.declared.Ruling.{Ruling}
 use Rattle.scopes.specs.declared.Ruling.the-variants as ruling
 use Rattle.scopes.specs.declared.Progress.{Progress}
@@ -53,8 +54,8 @@ pub record FitsText (long : ℕ) (scope : Scope) (w : Progress) : Type 0 where
 pub record Kept (t u : List ℕ) (n f h : ℕ) : Type 0 where
   pub long : length u ≡ length t
   pub rows : (j : ℕ) → j < n * definitionWidth → cellOf u j ≡ cellOf t j
-  pub filed : (j : ℕ) → filedAt ≤ j → j < filedAt + f → cellOf u j ≡ cellOf t j
-  pub opens : (j : ℕ) → openAt ≤ j → j < openAt + h → cellOf u j ≡ cellOf t j
+  pub filed : (j : ℕ) → size ≤ f + j → j < size → cellOf u j ≡ cellOf t j
+  pub opens : (j : ℕ) → entriesAt ≤ j → j < entriesAt + h → cellOf u j ≡ cellOf t j
 
 -- the types of instances are definitions, and their suffixes are sound
 pub data Sounds (table : List Definition) : List Child → Type 0 where
@@ -70,8 +71,9 @@ pub record Standing (text t : List ℕ) (scope : Scope) (w : Progress) (s : Stat
   pub opened : w .opened ≡ s .known .opened
   pub rows : Holds text t (w .closed) (w .filed) (s .known .table)
   pub types : Chain t (scope .base) (w .head) (s .known .here)
-  pub held : Block text t (openAt + scope .first) (s .held)
+  pub held : Block text t (entriesAt + scope .first) (s .held)
   pub count : w .held ≡ scope .first + length (s .held)
+  pub linked : Linked text t (entriesAt + scope .first) (length (s .held))
   pub sound : Sounds (s .known .table) (s .held)
 
 -- what an answer says of what is judged
@@ -94,22 +96,24 @@ pub data Moves (long : ℕ) (scope : Scope) (w : Progress) : Progressed → Type
 
 -- what a step over an element does: `reads` says what the element is
 pub record Steps (text t u : List ℕ) (scope : Scope) (w : Progress) (reads : Elem → ℕ → Type 0) (r : Progressed) : Type 0 where
-  pub kept : Kept t u (w .closed) (w .filed) (w .held)
+  pub kept : Kept t u (w .closed) (w .filed) (scope .first)
   pub moves : Moves (length text) scope w r
   pub each : (e : Elem) (n : ℕ) (env : List VisibleType) (s : State) → reads e n → Standing text t scope w s → Chain t 0 (scope .base) env
       → Matches text u scope n (judgeElem e text (scope .enclosing) env (scope .defaults) s) r
 
--- what `instance_rules` answers, for all instances that stand before
-pub record InstanceRules (text t : List ℕ) (scope : Scope) (held : ℕ) (kind : Kind) (i : Instance) (answer : Fault) : Type 0 where
+-- what `instance_rules` answers
+pub record InstanceRules (taken : Bool) (enclosing : Enclosing) (kind : Kind) (i : Instance) (answer : Fault) : Type 0 where
+  pub new : answer ≡ None → taken ≡ false
   pub sound : answer ≡ None → instanceFault kind i ≡ None
-  pub each : (cs : List Child) → Block text t (openAt + scope .first) cs → held ≡ scope .first + length cs → (rest : Judged (List Child))
-      → found answer rest ≡ unless (isAmong text (i .name) (namesOf cs)) 6 (i .name .start) (unless (not (mayHold (scope .enclosing) kind)) 10 (i .name .start) (found (instanceFault kind i) rest))
+  pub each : (rest : Judged (List Child))
+      → found answer rest ≡ unless taken 6 (i .name .start) (unless (not (mayHold enclosing kind)) 10 (i .name .start) (found (instanceFault kind i) rest))
 
 -- a body's instances, in the cells of open bodies
 pub record HeldList (text t : List ℕ) (first : ℕ) (table : List Definition) (held : ℕ) (cs : List Child) : Type 0 where
   pub long : size ≤ length t
-  pub block : Block text t (openAt + first) cs
+  pub block : Block text t (entriesAt + first) cs
   pub count : held ≡ first + length cs
+  pub linked : Linked text t (entriesAt + first) (length cs)
   pub sound : Sounds table cs
 
 -- a definition that instances may have for their type
@@ -124,9 +128,10 @@ pub data Added (text u : List ℕ) (scope : Scope) (row : ℕ) (kind : Kind) (he
       → ((is : List Instance) → judgeInstances text (scope .enclosing) kind row (i ∷ is) cs ≡ judgeInstances text (scope .enclosing) kind row is ds)
       → Added text u scope row kind held i table cs None
 
-pub record Adds (text t u : List ℕ) (scope : Scope) (row : ℕ) (kind : Kind) (at held : ℕ) (i : Instance) (answer : Fault) : Type 0 where
-  pub kept : (n f : ℕ) → n ≤ definitionLimit → f ≤ instanceRoom → Kept t u n f held
-  pub each : (m : ℕ) (table : List Definition) (cs : List Child) → instanceAt text at ≡ ok i m → Typed table row kind → HeldList text t (scope .first) table held cs
+pub record Adds (text t u : List ℕ) (scope : Scope) (row : ℕ) (kind : Kind) (held : ℕ) (i : Instance) (answer : Fault) : Type 0 where
+  pub long : length u ≡ length t
+  pub kept : (n f : ℕ) → n ≤ definitionLimit → f + held < instanceRoom → Kept t u n f (scope .first)
+  pub each : (at m : ℕ) (table : List Definition) (cs : List Child) → instanceAt text at ≡ ok i m → Typed table row kind → HeldList text t (scope .first) table held cs
       → Added text u scope row kind held i table cs answer
 
 -- a list of instances, behind those that a body holds
@@ -139,7 +144,7 @@ pub data ListMoves (long start before : ℕ) : ListJudged → Type 0 where
   list-moves : {held at : ℕ} → before < held → at ≤ long → 2 * held + start ≤ 2 * before + at → ListMoves long start before (listJudged.Done held at)
 
 pub record Lists (text t u : List ℕ) (scope : Scope) (row : ℕ) (kind : Kind) (start before : ℕ) (r : ListJudged) : Type 0 where
-  pub kept : (n f : ℕ) → n ≤ definitionLimit → f ≤ instanceRoom → Kept t u n f before
+  pub kept : (n f : ℕ) → n ≤ definitionLimit → 2 * (f + before) ≤ start → Kept t u n f (scope .first)
   pub moves : ListMoves (length text) start before r
   pub each : (is : List Instance) (n : ℕ) (table : List Definition) (cs : List Child) → instancesAt text start ≡ ok is n → Typed table row kind
       → HeldList text t (scope .first) table before cs → ListMatches text u (scope .first) n table (judgeInstances text (scope .enclosing) kind row is cs) r
@@ -151,7 +156,7 @@ pub record TypeUsable (long : ℕ) (scope : Scope) (w : Progress) (next : ℕ) (
   pub low : (d : ℕ) → meaning ≡ Number d → d < w .closed
 
 pub record Uses (text t u : List ℕ) (scope : Scope) (w : Progress) (name : Name) (next : ℕ) (meaning : Given) (r : Progressed) : Type 0 where
-  pub kept : Kept t u (w .closed) (w .filed) (w .held)
+  pub kept : Kept t u (w .closed) (w .filed) (scope .first)
   pub moves : Moves (length text) scope w r
   pub each : (is : List Instance) (n : ℕ) (s : State) → instancesAt text next ≡ ok is n → Standing text t scope w s
       → Matches text u scope n (judgeUse text (scope .enclosing) name is s meaning) r
@@ -203,7 +208,7 @@ pub record NameFault (text t : List ℕ) (base head : ℕ) (name : DefinedName) 
 
 -- what `judge_tail` does
 pub record Tails (text t u : List ℕ) (scope : Scope) (h : Header) (w : Progress) (r : Progressed) : Type 0 where
-  pub kept : Kept t u (w .closed) (w .filed) (w .held)
+  pub kept : Kept t u (w .closed) (w .filed) (scope .first)
   pub moves : Moves (length text) scope w r
   pub each : (is : List Instance) (n : ℕ) (s : State) → tailAt (isNamed (h .name)) text (w .at) ≡ ok is n → Standing text t scope w s
       → Typed (s .known .table) (lastOf (s .known .table)) (h .kind)

@@ -20,37 +20,22 @@ use scopes::Scope;
 use vocabulary::Mark;
 ghost use mathlib.Core.Path.{_≡_};
 ghost use Prim.Native.Nat.{_+_, _*_, _<_, _≤_};
-ghost use lib.ListN.{length, set};
+ghost use lib.ListN.{length};
 ghost use Rattle.basics.specs.Limits.{textLimit, definitionLimit};
 ghost use Rattle.lex.specs.Words.{verdictNumbers};
 ghost use Rattle.parts.specs.Reading.{ok};
 ghost use Rattle.syntax.specs.Grammar.{instanceStatementAt, statementAt, definitionAt, bodyAt};
-ghost use Rattle.identifiers.specs.Names.{fingerprint};
-ghost use Rattle.cells.specs.Cells.{size, openAt, entryOf, instanceRoom, entryPlaces};
+ghost use Rattle.cells.specs.Cells.{size, instanceRoom, entryPlaces};
 ghost use Rattle.rules.specs.Rules.{ruled, rulesVerdict, judgedNumbers, ruledAs, Worked};
 ghost use Rattle.rules.specs.Standing.{FitsText, Steps, InstanceRules, Adds, Lists, TypeUsable, Uses, HeaderFault, NameFault, Closing, BodySteps, Tails, Rules};
 
 // The first fault of an instance: 6 and 10 at its name, then 9 and 11.
-fn instance_rules(
-    text: &[u8],
-    cells: &[u64],
-    scope: Scope,
-    held: usize,
-    kind: Kind,
-    instance: Instance,
-) -> Fault
-    requires { ⌜ (scope .first ≤ held) × (held ≤ instanceRoom) ⌝ }
-    ensures { λ r. ⌜ InstanceRules (now (text .entry)) (now (cells .entry)) scope held kind instance r ⌝ }
+fn instance_rules(taken: bool, scope: Scope, kind: Kind, instance: Instance) -> Fault
+    ensures { λ r. ⌜ InstanceRules taken (scope .enclosing) kind instance r ⌝ }
 {
     let name = instance.name;
     let enclosing = scope.enclosing;
-    if cells::is_held(
-        text,
-        cells,
-        cells::OPEN + scope.first,
-        cells::OPEN + held,
-        name,
-    ) {
+    if taken {
         return Fault::Refused(6, name.start);
     }
     if !scopes::may_hold(enclosing, kind) {
@@ -59,36 +44,28 @@ fn instance_rules(
     suffixes::instance_fault(kind, instance)
 }
 
-// Writes an instance of the definition of a row behind those of the open bodies.
-fn hold(text: &[u8], cells: &mut [u64], held: usize, place: usize, row: usize, name: Name)
-    requires { ⌜ (held ≤ instanceRoom) × (place < entryPlaces) × (row < definitionLimit) ⌝ }
-    ensures { λ _. ⌜ now (cells .exit) ≡ set (now (cells .entry)) (openAt + held) (entryOf place row (fingerprint (now (text .entry)) name)) ⌝ }
-{
-    let print = identifiers::fingerprint_of(text, name);
-    let entry = cells::entry_of(place, row as u64, print);
-    basics::put(cells, cells::OPEN + held, entry);
-}
-
-// Judges an instance that stands at a place, and adds it to those of the open bodies if it is sound.
+// Judges an instance of the definition of a row, and adds it to those of the open bodies if it is sound.
 fn add_instance(
     text: &[u8],
     cells: &mut [u64],
     scope: Scope,
     row: usize,
     kind: Kind,
-    at: usize,
     held: usize,
     instance: Instance,
 ) -> Fault
-    requires { ⌜ (scope .first ≤ held) × (held < instanceRoom) × (at < entryPlaces) × (row < definitionLimit) ⌝ }
-    ensures { λ r. ⌜ Adds (now (text .entry)) (now (cells .entry)) (now (cells .exit)) scope row kind at held instance r ⌝ }
+    requires { ⌜ (length (now text) ≤ textLimit) × (scope .first ≤ held) × (held < instanceRoom) × (instance .name .start < entryPlaces) × (row < definitionLimit) ⌝ }
+    ensures { λ r. ⌜ Adds (now (text .entry)) (now (cells .entry)) (now (cells .exit)) scope row kind held instance r ⌝ }
 {
-    let fault = instance_rules(text, cells, scope, held, kind, instance);
-    match fault {
+    let name = instance.name;
+    let from = cells::ENTRIES + scope.first;
+    let count = held - scope.first;
+    let bytes = identifiers::bytes_of(text, name.start, name.end);
+    let spot = name_tree::find(text, cells, from, count, bytes);
+    match instance_rules(spot.taken, scope, kind, instance) {
         Fault::Refused(number, place) => Fault::Refused(number, place),
         Fault::None => {
-            let name = instance.name;
-            hold(text, cells, held, at, row, name);
+            name_tree::add(cells, from, count, spot, name.start, row);
             Fault::None
         }
     }
@@ -116,7 +93,7 @@ fn judge_instances(
             }
             ListItemReading::Done(listed, next) => {
                 let instance = listed.instance;
-                match add_instance(text, cells, scope, row, kind, at, held, instance) {
+                match add_instance(text, cells, scope, row, kind, held, instance) {
                     Fault::Refused(number, place) => {
                         return ListJudged::Refused(number, place);
                     }
@@ -241,8 +218,8 @@ fn close_body(
 {
     let kind = header.kind;
     let component = scopes::closing_component(kind, scope, walk);
-    let from = cells::OPEN + scope.first;
-    let to = cells::OPEN + walk.held;
+    let from = cells::ENTRIES + scope.first;
+    let to = cells::ENTRIES + walk.held;
     let fault = closing_rules::closing_fault(text, cells, from, to, component);
     if 0 < fault {
         return Progressed::Refused(fault, brace);

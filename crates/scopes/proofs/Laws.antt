@@ -16,14 +16,14 @@ use Rattle.basics.specs.Given.{isGiven}
 use Rattle.basics.specs.declared.Given.{Given}
 use Rattle.components.specs.declared.Component.{Component}
 use Rattle.basics.specs.Slices.{written}
-use Rattle.cells.specs.Cells.{filedAt, openAt, rank, valuesOf, valueCells, otherCells, moved, definitionWidth}
+use Rattle.cells.specs.Cells.{entriesAt, rank, valuesOf, valueCells, otherCells, moved, definitionWidth}
 use Rattle.cells.specs.Definitions.{nameOr}
 use Rattle.cells.specs.declared.Values.{Values}
 use Rattle.scopes.specs.declared.Enclosing.the-variants.{Inside}
 use Rattle.scopes.specs.declared.Progress.{Progress}
 use Rattle.scopes.specs.declared.Scope.{Scope}
 use Rattle.scopes.specs.Places.{mayDefine, isUnnamed, isBadMap}
-use Rattle.scopes.specs.Walks.{headAfter, filedCells}
+use Rattle.scopes.specs.Walks.{headAfter, firstFiled, filedCells}
 
 -- what may be defined in a body, where calls answer the ranks
 module _ (body kind : Kind) {a b : ℕ} (e : a ≡ rank body) (f : b ≡ rank kind) where
@@ -72,7 +72,7 @@ head-unnamed (Named n) before closed e f = absurd (let z : _≡_ {A = ℕ} 0 1 =
 pub row-filed : (t : List ℕ) (h : Header) (s : Scope) (w : Progress) (c : Component) {v : Values} {n : Name} {t1 t2 : List ℕ} → v ≡ valuesOf c → n ≡ nameOr (h .name)
     → t1
     ≡ written
-    (written t (w .closed * definitionWidth) (valueCells v)) (w .closed * definitionWidth + 7) (otherCells (record { values = v; first = w .filed; count = w .held - s .first; name = n; below = s .base }))
-    → t2 ≡ moved t1 (openAt + s .first) (filedAt + w .filed) (w .held - s .first) → t2 ≡ filedCells t h s w c
+    (written t (w .closed * definitionWidth) (valueCells v)) (w .closed * definitionWidth + 7) (otherCells (record { values = v; first = firstFiled s w; count = w .held - s .first; name = n; below = s .base }))
+    → t2 ≡ moved t1 (entriesAt + s .first) (entriesAt + firstFiled s w) (w .held - s .first) → t2 ≡ filedCells t h s w c
 unfolding filedCells
 row-filed t h s w c e f g i = rw (i, g, e, f)

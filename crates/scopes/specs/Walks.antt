@@ -20,7 +20,7 @@ use Rattle.basics.specs.declared.Given.the-variants.{Nothing, Number}
 use Rattle.properties.specs.declared.Assigned.{Assigned}
 use Rattle.components.specs.declared.Component.{Component}
 use Rattle.basics.specs.Slices.{written}
-use Rattle.cells.specs.Cells.{filedAt, openAt, rank, valuesOf, valueCells, otherCells, moved, definitionWidth}
+use Rattle.cells.specs.Cells.{instanceRoom, entriesAt, rank, valuesOf, valueCells, otherCells, moved, definitionWidth}
 use Rattle.cells.specs.Definitions.{nameOr}
 use Rattle.cells.specs.declared.Row.{Row}
 use Rattle.scopes.specs.declared.Enclosing.the-variants.{Root, Inside}
@@ -90,15 +90,19 @@ openingWalk w at =
 abbrev pub innerScope : Scope → Progress → Kind → Scope
 innerScope s w k = record { enclosing = Inside k; first = w .held; base = w .head; defaults = nearest (w .assigned .defaults) (s .defaults) }
 
+-- where the instances of a body that ends come to stand: before those of the definitions that were closed earlier
+abbrev pub firstFiled : Scope → Progress → ℕ
+firstFiled s w = instanceRoom - (w .filed + (w .held - s .first))
+
 -- the cells with the row of a definition whose body ends, and with its instances among those of closed definitions
 abbrev pub rowOf : Header → Scope → Progress → Component → Row
-rowOf h s w c = record { values = valuesOf c; first = w .filed; count = w .held - s .first; name = nameOr (h .name); below = s .base }
+rowOf h s w c = record { values = valuesOf c; first = firstFiled s w; count = w .held - s .first; name = nameOr (h .name); below = s .base }
 
 unfoldable pub filedCells : List ℕ → Header → Scope → Progress → Component → List ℕ
 filedCells t h s w c =
     moved
     (written (written t (w .closed * definitionWidth) (valueCells (valuesOf c))) (w .closed * definitionWidth + 7) (otherCells (rowOf h s w c)))
-    (openAt + s .first) (filedAt + w .filed) (w .held - s .first)
+    (entriesAt + s .first) (entriesAt + firstFiled s w) (w .held - s .first)
 
 -- behind a body that ends
 abbrev pub closedWalk : Scope → Progress → ℕ → Progress

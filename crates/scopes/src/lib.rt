@@ -15,7 +15,7 @@ use properties::Settings;
 use vocabulary::Mark;
 ghost use mathlib.Core.Path.{_≡_};
 ghost use mathlib.Core.Bool.{_||_, _&&_};
-ghost use Prim.Native.Nat.{_<_, _≤_};
+ghost use Prim.Native.Nat.{_+_, _<_, _≤_};
 ghost use lib.Dec.{eqb};
 ghost use Rattle.basics.specs.Limits.{definitionLimit};
 ghost use Rattle.lex.specs.Words.{verdictNumbers};
@@ -248,7 +248,7 @@ pub fn closing_component(kind: Kind, scope: Scope, walk: Progress) -> Component
     components::component_of(kind, properties::nearest_of(own, outer))
 }
 
-// Writes the row of a definition whose body ends, and moves its instances to those of closed definitions.
+// Writes the row of a definition whose body ends, and moves its instances before those of the definitions that were closed earlier.
 pub fn file_definition(
     cells: &mut [u64],
     header: Header,
@@ -256,27 +256,31 @@ pub fn file_definition(
     walk: Progress,
     component: Component,
 )
-    requires { ⌜ (walk .closed < definitionLimit) × (scope .first ≤ walk .held) × (walk .held ≤ instanceRoom) × (walk .filed ≤ instanceRoom) ⌝ }
+    requires { ⌜ (walk .closed < definitionLimit) × (scope .first ≤ walk .held) × (walk .filed + walk .held ≤ instanceRoom) ⌝ }
     ensures { λ _. ⌜ now (cells .exit) ≡ filedCells (now (cells .entry)) header scope walk component ⌝ }
 {
     let count = walk.held - scope.first;
+    let first = cells::INSTANCE_ROOM - (walk.filed + count);
     let name = header.name;
     let row = Row {
         values: cells::values_of(component),
-        first: walk.filed as u64,
+        first: first as u64,
         count: count as u64,
         name: name_or_none(name),
         below: scope.base as u64,
     };
     cells::put_row(cells, walk.closed, row);
-    let from = cells::OPEN + scope.first;
-    let to = cells::FILED + walk.filed;
-    cells::move_cells(cells, from, to, count);
+    cells::move_cells(
+        cells,
+        cells::ENTRIES + scope.first,
+        cells::ENTRIES + first,
+        count,
+    );
 }
 
 // What is known behind a body that ends.
 pub fn closed_walk(scope: Scope, walk: Progress, next: usize) -> Progress
-    requires { ⌜ (walk .closed < definitionLimit) × (scope .first ≤ walk .held) × (walk .held ≤ instanceRoom) × (walk .filed ≤ instanceRoom) ⌝ }
+    requires { ⌜ (walk .closed < definitionLimit) × (scope .first ≤ walk .held) × (walk .filed + walk .held ≤ instanceRoom) ⌝ }
     ensures { λ r. ⌜ r ≡ closedWalk scope walk next ⌝ }
 {
     let map = walk.map;

@@ -20,7 +20,7 @@ use Rattle.fields.specs.declared.Register.{Register}
 use Rattle.components.specs.declared.Component.{Component}
 use Rattle.components.specs.declared.Component.the-variants as component
 use Rattle.basics.specs.Slices.{cellOf}
-use Rattle.cells.specs.Cells.{filedAt, instanceRoom, componentIn, firstIn, countIn}
+use Rattle.cells.specs.Cells.{entriesAt, instanceRoom, componentIn, firstIn, countIn}
 use Rattle.cells.specs.Decoded.{childIn}
 use Rattle.cells.specs.declared.ChildReading.{ChildReading}
 use Rattle.cells.specs.declared.ChildReading.the-variants as childReading
@@ -50,7 +50,7 @@ module _ (text t : List ℕ) (e : Extent) (row : ℕ) (ready : Ready text t e) (
   ready-row = row-fits (e .mode) (ready .sensible) row (rw (ready .holds .count) low)
 
   -- its instances
-  pub ready-block : Block text t (filedAt + firstIn t row) (definitionOf (known text t e) row .instances)
+  pub ready-block : Block text t (entriesAt + firstIn t row) (definitionOf (known text t e) row .instances)
   ready-block = ready-is-row .instances
 
   pub ready-count : countIn t row ≡ length (definitionOf (known text t e) row .instances)
@@ -127,7 +127,7 @@ pub record Laying (text t s : List ℕ) (e : Extent) (row : ℕ) (a : Given) (to
   pub accessed : larger access (cut (largestAccess (shapesFrom (e .mode) [] (fits .before)) rest)) ≡ cut (shapeAt (allShapes text t e) row .access)
 
 module _ (text t s : List ℕ) (e : Extent) (row : ℕ) (a : Given) where
-  pub laying-start : {from to : ℕ} → Ready text t e → row < e .rows → ShapesBefore text t s e row → GroupRow t row a → from ≡ filedAt + firstIn t row → to ≡ from + countIn t row
+  pub laying-start : {from to : ℕ} → Ready text t e → row < e .rows → ShapesBefore text t s e row → GroupRow t row a → from ≡ entriesAt + firstIn t row → to ≡ from + countIn t row
       → Laying text t s e row a to from (record { 0 = 0 }) 0 0
   laying-start {from} {to} ready low stored g p q =
       let f : RowFits (e .mode) (known text t e) row = ready-row text t e row ready low in

@@ -1,4 +1,4 @@
--- Place, row and fingerprint, each in its range, make one number below 2 ^ 64.
+-- Place, row and two links, each in its range, make one number below 2 ^ 64.
 use borrow.Author.Needs.{needs}
 use Rattle.cells.specs.Cells.{entryOf}
 use Rattle.cells.proofs.entry_of.Statement.{statement}
@@ -13,4 +13,6 @@ entry-of-spec =
     (λ c. search needs)  -- add-result
     (λ c. search needs)  -- mul-result-2
     (λ c. search needs)  -- add-result-2
+    (λ c. search needs)  -- mul-result-3
+    (λ c. search needs)  -- add-result-3
     (λ c. search needs))  -- returns

@@ -1,5 +1,5 @@
--- The place is what the division by 131,072 leaves.
-use borrow.Author.Needs.{needs}
+-- The place is what the division by 1,048,576 leaves.
+use native.Mathlib.Omega.{arith}
 use Rattle.cells.specs.Cells.{placeIn}
 use Rattle.cells.proofs.place_in.Statement.{statement}
 use Rattle.cells.proofs.place_in.Tie as tie
@@ -9,4 +9,4 @@ unfolding placeIn
 place-in-spec =
     tie.close
     (tie.spec
-    (λ c. search needs))  -- returns
+    (λ c. omega arith))  -- returns

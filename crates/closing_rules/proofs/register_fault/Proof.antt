@@ -8,13 +8,11 @@ pub register-fault-spec : {M : Type 1} → statement M
 register-fault-spec =
     tie.close
     (tie.spec
-    (λ c κs. search needs)  -- any-field-requires
+    (λ c κs. search needs)  -- broken-by-requires
     (λ c. search register-wide)  -- returns
     (λ c. search register-access)  -- returns-2
-    (λ c κs. search needs)  -- any-field-requires-2
     (λ c. search register-outside)  -- returns-3
     (λ c κs. search needs)  -- any-overlap-requires
     (λ c. search register-overlap)  -- returns-4
-    (λ c κs. search needs)  -- any-field-requires-3
     (λ c. search register-spans)  -- returns-5
     (λ c. search register-sound))  -- returns-6

@@ -6,7 +6,7 @@ use Rattle.compile.specs.Stages.{Charts}
 use mathlib.Core.Path.{subst}
 use Prim.Native.Nat.{ℕ}
 use lib.ListN.{length-replicate}
-use Rattle.sizes.specs.Shapes.{shapesSize}
+use Rattle.recall.specs.Shelves.{recallSize}
 use Rattle.map_walk.specs.Runs.{logSize}
 use Rattle.compile.proofs.compile_map.Statement.{statement}
 use Rattle.compile.proofs.compile_map.Tie as tie
@@ -26,7 +26,7 @@ compile-map-spec =
     let at-slice-known = at-component-at .before .before .before .before in
     let at-start = at-slice-known .before .before .before in (
       filed-in _ _ _ _ (at-start .pre) (at-component-at .component-at .ensures) (at-mode-of .mode-of .ensures),
-      omega (arith, length-replicate {A = ℕ} shapesSize 0),
+      omega (arith, length-replicate {A = ℕ} recallSize 0),
       omega (arith, length-replicate {A = ℕ} logSize 0),
     ))
     (λ c. search needs)  -- enum-known-number

@@ -1,6 +1,6 @@
 -- The survey's answer decides on 18, 19 and 20, the pass over the log on 21.
 use borrow.Author.Needs.{needs}
-use Rattle.compile.proofs.Stages.{shaped, map-low, survey-charts, survey-refuses, overlap-refuses, overlap-passes}
+use Rattle.compile.proofs.Stages.{map-low, survey-charts, survey-refuses, overlap-refuses, overlap-passes}
 use Rattle.compile.proofs.judge_map.Statement.{statement}
 use Rattle.compile.proofs.judge_map.Tie as tie
 
@@ -8,14 +8,14 @@ pub judge-map-spec : {M : Type 1} → statement M
 judge-map-spec =
     tie.close
     (tie.spec
-    (λ c κs. search needs)  -- fill-shapes-requires
+    (λ c κs. search needs)  -- prepare-requires
     -- survey-requires
     (λ c κs.
-    let at-fill-shapes = c .before .before .before .before in
-    let at-fill-shapes-arg = at-fill-shapes .before in
-    let at-shared-slice-known = at-fill-shapes-arg .before .before .before .before in
+    let at-prepare = c .before .before .before .before in
+    let at-prepare-arg = at-prepare .before in
+    let at-shared-slice-known = at-prepare-arg .before .before .before .before in
     let at-start = at-shared-slice-known .before in
-    (shaped _ _ _ (at-start .pre .0) _ (at-fill-shapes .fill-shapes .ensures), map-low _ _ _ (at-start .pre .0)))
+    (at-prepare .prepare .ensures, map-low _ _ _ (at-start .pre .0)))
     (λ c. search needs)  -- enum-known-number
     (λ c. search needs)  -- enum-known-counts
     -- first-overlap-requires
@@ -23,11 +23,11 @@ judge-map-spec =
     let at-counts = c .before .before .before in
     let at-survey = at-counts .before .before .before .before in
     let at-shapes = at-survey .before .before .before .before in
-    let at-fill-shapes = at-shapes .before in
-    let at-fill-shapes-arg = at-fill-shapes .before in
-    let at-shared-slice-known = at-fill-shapes-arg .before .before .before .before in
+    let at-prepare = at-shapes .before in
+    let at-prepare-arg = at-prepare .before in
+    let at-shared-slice-known = at-prepare-arg .before .before .before .before in
     let at-start = at-shared-slice-known .before in
-    survey-charts _ _ _ (at-start .pre .0) (at-survey .survey .ensures .0) _ (at-survey .survey .ensures .1) (at-start .pre .2) (at-counts .counts .given .1) (shaped _ _ _ (at-start .pre .0) _ (at-fill-shapes .fill-shapes .ensures)))
+    survey-charts _ _ _ (at-start .pre .0) (at-survey .survey .ensures .0) _ (at-survey .survey .ensures .1) (at-start .pre .2) (at-counts .counts .given .1) (at-prepare .prepare .ensures))
     (λ c. search needs)  -- enum-known-number-2
     (λ c. search needs)  -- enum-told
     (λ c. search needs)  -- same-length
@@ -37,8 +37,8 @@ judge-map-spec =
     let at-number = c .before in
     let at-survey = at-number .before .before .before .before in
     let at-shapes = at-survey .before .before .before .before in
-    let at-fill-shapes-arg = at-shapes .before .before in
-    let at-shared-slice-known = at-fill-shapes-arg .before .before .before .before in
+    let at-prepare-arg = at-shapes .before .before in
+    let at-shared-slice-known = at-prepare-arg .before .before .before .before in
     let at-start = at-shared-slice-known .before in
     survey-refuses _ _ _ (at-start .pre .0) (at-survey .survey .ensures .0) (at-number .number .given .1))
     (λ c. search needs)  -- same-length-3
@@ -50,8 +50,8 @@ judge-map-spec =
     let at-counts = at-first-overlap .before .before .before .before in
     let at-survey = at-counts .before .before .before .before in
     let at-shapes = at-survey .before .before .before .before in
-    let at-fill-shapes-arg = at-shapes .before .before in
-    let at-shared-slice-known = at-fill-shapes-arg .before .before .before .before in
+    let at-prepare-arg = at-shapes .before .before in
+    let at-shared-slice-known = at-prepare-arg .before .before .before .before in
     let at-start = at-shared-slice-known .before in
     overlap-refuses _ _ _ (at-start .pre .0) (at-survey .survey .ensures .0) _ (at-survey .survey .ensures .1) (at-start .pre .2) (at-counts .counts .given .1) (at-first-overlap .first-overlap .ensures) (at-number2 .number2 .given .1))
     (λ c. search needs)  -- same-length-5
@@ -62,9 +62,9 @@ judge-map-spec =
     let at-counts = at-first-overlap .before .before .before .before in
     let at-survey = at-counts .before .before .before .before in
     let at-shapes = at-survey .before .before .before .before in
-    let at-fill-shapes = at-shapes .before in
-    let at-fill-shapes-arg = at-fill-shapes .before in
-    let at-shared-slice-known = at-fill-shapes-arg .before .before .before .before in
+    let at-prepare = at-shapes .before in
+    let at-prepare-arg = at-prepare .before in
+    let at-shared-slice-known = at-prepare-arg .before .before .before .before in
     let at-start = at-shared-slice-known .before in
     overlap-passes _ _ _ (at-start .pre .0) (at-survey .survey .ensures .0) _ (at-survey .survey .ensures .1) (at-start .pre .2) (at-counts .counts .given .1) (at-first-overlap .first-overlap .ensures) (c .enum-told .given .1)
-    (shaped _ _ _ (at-start .pre .0) _ (at-fill-shapes .fill-shapes .ensures))))
+    (at-prepare .prepare .ensures)))

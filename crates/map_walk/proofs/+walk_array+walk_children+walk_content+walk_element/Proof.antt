@@ -29,7 +29,7 @@ use Rattle.capped.proofs.sum.Reads as sum-reads
 use Rattle.cells.proofs.instances_of.Reads as instances-of-reads
 use Rattle.sizes.proofs.shape_at.Reads as shape-at-reads
 use Rattle.cells.proofs.component_at.Reads as component-at-reads
-use Rattle.cells.proofs.child_at.Reads as child-at-reads
+use Rattle.recall.proofs.child_at.Reads as child-at-reads
 use Rattle.map_walk.proofs.deeper.Reads as deeper-reads
 use Rattle.map_walk.proofs.element_of.Reads as element-of-reads
 use Rattle.map_walk.proofs.kid_of.Reads as kid-of-reads

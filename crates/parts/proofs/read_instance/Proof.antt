@@ -1,6 +1,6 @@
--- A name, then what follows it.
+-- The token behind the instance is left out.
 use borrow.Author.Needs.{needs}
-use Rattle.parts.proofs.Laws.{name-done, name-stop}
+use Rattle.parts.proofs.Laws.{instance-done, instance-stop}
 use Rattle.parts.proofs.read_instance.Statement.{statement}
 use Rattle.parts.proofs.read_instance.Tie as tie
 
@@ -8,9 +8,8 @@ pub read-instance-spec : {M : Type 1} → statement M
 read-instance-spec =
     tie.close
     (tie.spec
-    (λ c κs. search needs)  -- read-name-requires
-    (λ c. search needs)  -- enum-known-name
-    (λ c κs. search needs)  -- read-named-requires
-    (λ c. search needs)  -- enum-known-place
-    (λ c. search name-done)  -- returns
-    (λ c. search name-stop))  -- returns-2
+    (λ c κs. search needs)  -- read-instance-ahead-requires
+    (λ c. search needs)  -- enum-known-instance
+    (λ c. search needs)  -- enum-known-number
+    (λ c. search instance-done)  -- returns
+    (λ c. search instance-stop))  -- returns-2

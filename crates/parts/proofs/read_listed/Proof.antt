@@ -8,9 +8,9 @@ pub read-listed-spec : {M : Type 1} → statement M
 read-listed-spec =
     tie.close
     (tie.spec
-    (λ c κs. search needs)  -- read-instance-requires
+    (λ c κs. search needs)  -- read-instance-ahead-requires
     (λ c. search needs)  -- enum-known-instance
-    (λ c κs. search needs)  -- read-parted-requires
+    (λ c κs. search needs)  -- parted-by-requires
     (λ c. search needs)  -- enum-known-number
     (λ c. search listed-more)  -- returns
     (λ c. search listed-stop))  -- returns-2

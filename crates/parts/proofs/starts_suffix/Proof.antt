@@ -1,6 +1,6 @@
--- One mark of a suffix after another.
+-- One mark after another.
 use borrow.Author.Needs.{needs}
-use Rattle.parts.proofs.Laws.{starts-reset, starts-address, starts-stride, starts-alignment}
+use Rattle.parts.proofs.Laws.{starts-reset, starts-address, starts-spaced}
 use Rattle.parts.proofs.starts_suffix.Statement.{statement}
 use Rattle.parts.proofs.starts_suffix.Tie as tie
 
@@ -8,12 +8,9 @@ pub starts-suffix-spec : {M : Type 1} → statement M
 starts-suffix-spec =
     tie.close
     (tie.spec
-    (λ c κs. search needs)  -- next-token-requires
     (λ c κs. search needs)  -- is-mark-requires
     (λ c. search starts-reset)  -- returns
     (λ c κs. search needs)  -- is-mark-requires-2
     (λ c. search starts-address)  -- returns-2
-    (λ c κs. search needs)  -- is-mark-requires-3
-    (λ c. search starts-stride)  -- returns-3
-    (λ c κs. search needs)  -- is-mark-requires-4
-    (λ c. search starts-alignment))  -- returns-4
+    (λ c κs. search needs)  -- starts-spacing-requires
+    (λ c. search starts-spaced))  -- returns-3

@@ -2,7 +2,7 @@
 use borrow.Author.Needs.{needs}
 use native.Mathlib.Omega.{arith}
 use Prim.Native.Nat.{_-_}
-use Rattle.row_writer.proofs.Tables.{Writing, writing-start, writing-first, writing-low, writing-steps, writing-falls, writing-ready, writing-cell, writing-row, writing-back, writing-next, end-registers, end-paths, end-fields, end-labels}
+use Rattle.row_writer.proofs.Tables.{Writing, writing-start, writing-first, writing-low, writing-steps, writing-falls, writing-cell, writing-row, writing-back, writing-next, end-registers, end-paths, end-fields, end-labels}
 use Rattle.row_writer.proofs.write_rows.Statement.{statement}
 use Rattle.row_writer.proofs.write_rows.Tie as tie
 
@@ -44,7 +44,7 @@ write-rows-spec =
     let at-cell = at-write-path .before .before in
     let at-loop-test = at-cell .before in
     let at-loop = at-loop-test .before in
-    (writing-ready _ _ _ _ _ _ _ _ (at-loop .loop .inv) (at-loop-test .loop-test .taken), writing-row _ _ _ _ _ _ _ _ (at-loop .loop .inv) (at-loop-test .loop-test .taken) (at-cell .cell .ensures), writing-first _ _ _ _ _ _ _ _ (at-loop .loop .inv)))
+    (at-loop .loop .inv .charted .shaped, writing-row _ _ _ _ _ _ _ _ (at-loop .loop .inv) (at-loop-test .loop-test .taken) (at-cell .cell .ensures), writing-first _ _ _ _ _ _ _ _ (at-loop .loop .inv)))
     -- sub-write-register
     (λ c.
     let at-write-run = c .before .before .before .before in

@@ -8,10 +8,10 @@ use Rattle.row_writer.proofs.write_run.Statement.{statement}
 use Rattle.row_writer.proofs.write_run.Tie as tie
 
 abbrev Inv-loop : tie.InvT-loop
-Inv-loop text cells row fields₀ labels₀ first span i₀ next₀ j₀ fields labels i next j = RunWriting text cells row fields₀ fields labels₀ labels first (span .to) i next j
+Inv-loop text cells shapes row fields₀ labels₀ first span i₀ next₀ j₀ fields labels i next j = RunWriting text cells row fields₀ fields labels₀ labels first (span .to) i next j
 
 abbrev μ-loop : tie.MeasureT-loop
-μ-loop text cells row fields₀ labels₀ first span i₀ next₀ j₀ fields labels i next j = span .to - i
+μ-loop text cells shapes row fields₀ labels₀ first span i₀ next₀ j₀ fields labels i next j = span .to - i
 
 pub write-run-spec : {M : Type 1} → statement M
 write-run-spec =
@@ -20,12 +20,15 @@ write-run-spec =
     Inv-loop
     μ-loop
     -- instances-of-requires
-    (λ c κs. ready-span _ _ _ _ (c .before .before .before .before .pre .0) (c .before .before .before .before .pre .1))
+    (λ c κs.
+    let at-shared-slice-known2 = c .before .before .before in
+    let at-start = at-shared-slice-known2 .before .before in
+    ready-span _ _ _ _ (at-start .pre .0 .ready) (at-start .pre .1))
     -- loop-holds
     (λ c.
-    let at-shared-slice-known = c .before .before .before .before in
-    let at-start = at-shared-slice-known .before in
-    runs-start _ _ _ _ _ _ (at-start .pre .0) (at-start .pre .1) (at-start .pre .2) (c .instances-of .ensures .0) (c .instances-of .ensures .1))
+    let at-shared-slice-known2 = c .before .before .before .before in
+    let at-start = at-shared-slice-known2 .before .before in
+    runs-start _ _ _ _ _ _ (at-start .pre .0 .ready) (at-start .pre .1) (at-start .pre .2) (c .instances-of .ensures .0) (c .instances-of .ensures .1))
     (λ c κs. search needs)  -- child-at-requires
     (λ c. search needs)  -- enum-told
     (λ c. search needs)  -- same-length
@@ -36,9 +39,9 @@ write-run-spec =
     let at-if1 = at-child-at .before in
     let at-loop = at-if1 .before .before in
     let at-instances-of = at-loop .before in
-    let at-shared-slice-known = at-instances-of .before .before .before .before in
-    let at-start = at-shared-slice-known .before in
-    runs-stop _ _ _ (at-loop .loop .inv) (at-if1 .if1 .taken) (at-child-at .child-at .ensures) (at-start .pre .0) (at-start .pre .1) (c .enum-told .given .1))
+    let at-shared-slice-known2 = at-instances-of .before .before .before .before in
+    let at-start = at-shared-slice-known2 .before .before in
+    runs-stop _ _ _ (at-loop .loop .inv) (at-if1 .if1 .taken) (at-child-at .child-at .ensures) (at-start .pre .0 .ready) (at-start .pre .1) (c .enum-told .given .1))
     (λ c. search needs)  -- enum-known-inner
     (λ c κs. child-low _ _ (c .before .before .before .child-at .ensures) (c .before .inner .given .1))  -- component-at-requires
     -- placed-as-requires
@@ -94,6 +97,6 @@ write-run-spec =
     (λ c.
     let at-loop = c .before .before in
     let at-instances-of = at-loop .before in
-    let at-shared-slice-known = at-instances-of .before .before .before .before in
-    let at-start = at-shared-slice-known .before in
-    runs-end _ _ _ (at-loop .loop .inv) (at-start .pre .0) (at-start .pre .1) (c .if1 .left)))
+    let at-shared-slice-known2 = at-instances-of .before .before .before .before in
+    let at-start = at-shared-slice-known2 .before .before in
+    runs-end _ _ _ (at-loop .loop .inv) (at-start .pre .0 .ready) (at-start .pre .1) (c .if1 .left)))

@@ -1,6 +1,6 @@
--- 6 for a name that is held, 10 for a kind that may not stand there, then what its suffixes break.
+-- 6 where the name is taken, 10 where no such kind may stand, else what the suffixes break.
 use borrow.Author.Needs.{needs}
-use borrow.Author.Tests.{not-false, not-true}
+use borrow.Author.Tests.{not-true, not-false}
 use Rattle.rules.proofs.Instances.{rules-twice, rules-kind, rules-rest}
 use Rattle.rules.proofs.instance_rules.Statement.{statement}
 use Rattle.rules.proofs.instance_rules.Tie as tie
@@ -9,9 +9,6 @@ pub instance-rules-spec : {M : Type 1} → statement M
 instance-rules-spec =
     tie.close
     (tie.spec
-    (λ c. search needs)  -- add-is-held
-    (λ c. search needs)  -- add-is-held-2
-    (λ c κs. search needs)  -- is-held-requires
     (λ c. search rules-twice)  -- returns
     (λ c κs. search needs)  -- may-hold-requires
     (λ c. search (rules-kind, not-true))  -- returns-2

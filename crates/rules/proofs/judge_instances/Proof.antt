@@ -15,7 +15,7 @@ abbrev μ-loop : tie.MeasureT-loop
 μ-loop text cells₀ scope row kind start before at₀ held₀ cells at held = length text - at
 
 same-length : tie.Need-same-length Inv-loop μ-loop
-same-length c = c .before .before .before .before .loop .inv .kept 0 0 (omega arith) (omega arith) .long
+same-length c = c .before .before .before .before .loop .inv .long
 
 add-held : tie.Need-add-held Inv-loop μ-loop
 add-held c =

@@ -1,0 +1,17 @@
+-- The span is that of the register's plot, with the accesses of the fields of its type.
+use borrow.Author.Needs.{needs}
+use Rattle.overlaps.proofs.Plots.{index-few, row-few, plot-low, plot-sum, span-read}
+use Rattle.overlaps.proofs.span_at.Statement.{statement}
+use Rattle.overlaps.proofs.span_at.Tie as tie
+
+pub span-at-spec : {M : Type 1} → statement M
+span-at-spec =
+    tie.close
+    (tie.spec
+    (λ c κs. search (needs, index-few, row-few))  -- plot-at-requires
+    (λ c κs. search needs)  -- access-code-requires
+    (λ c κs. search (needs, plot-low))  -- has-access-requires
+    (λ c κs. search needs)  -- access-code-requires-2
+    (λ c κs. search (needs, plot-low))  -- has-access-requires-2
+    (λ c. search (needs, plot-sum))  -- add-t10
+    (λ c. search span-read))  -- returns

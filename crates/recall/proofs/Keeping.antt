@@ -1,0 +1,199 @@
+-- Laws of the shelves: what is kept is what the text gives, and the shapes stay.
+use mathlib.Core.Bool.{Bool, true, false}
+use mathlib.Core.Path.{_≡_, refl, sym, ap, _∙_}
+use mathlib.Core.List.{List, _∷_}
+use Prim.Native.Nat.{ℕ, suc, _+_, _-_, _*_, _<_, _≤_}
+use native.Mathlib.Omega.{arith}
+use lib.Dec.{eqb, ltb}
+use lib.ListN.{length, set, getD, length-set}
+use lib.Seq.{getD-set-same, getD-set-other}
+use borrow.Author.Tests.{eqb-true, eqb-false, ltb-true, ltb-false, eq-eqb, ne-eqb}
+use Rattle.basics.specs.Limits.{definitionLimit}
+use Rattle.basics.specs.Slices.{cellOf, written}
+use Rattle.parts.specs.Reading.{ok}
+use Rattle.parts.specs.Parts.{instanceAt}
+use Rattle.parts.specs.Answers.{instanceRead}
+use Rattle.parts.specs.declared.Instance.{Instance}
+use Rattle.parts.specs.declared.InstanceReading.{InstanceReading}
+use Rattle.parts.specs.declared.InstanceReading.the-variants as instanceReading
+use Rattle.cells.specs.Cells.{placeIn, rowIn}
+use Rattle.cells.specs.Decoded.{childIn}
+use Rattle.cells.specs.declared.ChildReading.the-variants as childReading
+use Rattle.cells.proofs.Laws.{written-length, written-other, written-same}
+use Rattle.layout.specs.declared.Shape.{Shape}
+use Rattle.sizes.specs.Shapes.{shapeWidth, shapeIn, ShapesIn}
+use Rattle.recall.specs.Encoded.{instanceCells, instanceIn}
+use Rattle.recall.specs.Shelves.{shelfCount, shelfWidth, recallSize, shelfAt, GivenAt, Shelved, ShapesStay, Shelving, Cleared}
+use Rattle.recall.proofs.Encoding.{instance-back, cells-count, instance-same}
+
+-- whether a shelf holds a place
+module _ (s : List ℕ) (at place : ℕ) {key : ℕ} (e : key ≡ cellOf s at) where
+  pub shelf-empty : key ≡ 0 → false ≡ eqb (cellOf s at) (place + 1)
+  shelf-empty z = sym (ne-eqb (cellOf s at) (place + 1) (λ f. omega arith))
+
+  pub shelf-full : (key ≡ 0 → ⊥) → eqb (key - 1) place ≡ eqb (cellOf s at) (place + 1)
+  shelf-full n = by (eqb (key - 1) place) refl
+    where
+      by : (b : Bool) → eqb (key - 1) place ≡ b → b ≡ eqb (cellOf s at) (place + 1)
+      by true x = sym (eq-eqb (cellOf s at) (place + 1) (omega (arith, eqb-true (key - 1) place x)))
+      by false x = sym (ne-eqb (cellOf s at) (place + 1) (λ f. eqb-false (key - 1) place x (omega arith)))
+
+-- the shapes stay
+stay-all : (s : List ℕ) → ShapesStay s s
+stay-all s = record { same = refl; cells = λ j l. refl }
+
+stay-more : {s t u : List ℕ} → ShapesStay s t → ShapesStay t u → ShapesStay s u
+stay-more a b = record { same = b .same ∙ a .same; cells = λ j l. b .cells j l ∙ a .cells j l }
+
+shape-stays : (s u : List ℕ) (r : ℕ) → ShapesStay s u → r < definitionLimit → shapeIn u r ≡ shapeIn s r
+unfolding shapeIn
+shape-stays s u r h l = rw (h .cells (r * shapeWidth) (omega arith), h .cells (r * shapeWidth + 1) (omega arith))
+
+pub shapes-stay : {s u : List ℕ} {rows : ℕ} {shapes : List Shape} → rows ≤ definitionLimit → ShapesStay s u → ShapesIn s rows shapes
+    → ShapesIn u rows shapes
+shapes-stay {s} {u} l h i = record { count = i .count; each = λ r m. shape-stays s u r h (omega arith) ∙ i .each r m }
+
+-- an instance from its shelf
+pub shelf-child : (text t s : List ℕ) (i : ℕ) {x place k at row : ℕ} {b : Bool} {y : Instance} → Shelved text s → x ≡ cellOf t i
+    → place ≡ placeIn x → k < shelfCount → at ≡ shelfAt k → b ≡ eqb (cellOf s at) (place + 1) → b ≡ true
+    → (row ≡ rowIn x) × (row < definitionLimit)
+    → y ≡ instanceIn s (at + 1) → childReading.Done row y ≡ childIn text (cellOf t i)
+unfolding childIn
+shelf-child text t s i {x} {place} {k} {at} {row} {b} {y} h e1 e2 l e3 e4 e5 (e6, m) e7 =
+    let held : cellOf s (shelfAt k) ≡ place + 1 = rw e3 at (eqb-true (cellOf s at) (place + 1) (sym e4 ∙ e5)) in
+    let g : GivenAt text place (instanceIn s (shelfAt k + 1)) = h .each k place l held in
+    let same : y ≡ instanceIn s (shelfAt k + 1) = e7 ∙ ap (λ (n : ℕ). instanceIn s (n + 1)) e3 in
+    rw (← e1, ← e2, g .reads, e6, same)
+
+-- an instance that is read
+pub given-at : (text : List ℕ) (place : ℕ) {y : InstanceReading} {i : Instance} {next : ℕ} → instanceRead y ≡ instanceAt text place
+    → y ≡ instanceReading.Done i next → instanceAt text place ≡ ok i next
+given-at text place e f = sym e ∙ ap instanceRead f
+
+-- an instance put on its shelf
+module _ (text s : List ℕ) (k place : ℕ) (i : Instance) {next at : ℕ} {t u : List ℕ} (h : Shelved text s) (long : recallSize ≤ length s)
+    (l : k < shelfCount) (e : at ≡ shelfAt k) (p : t ≡ set s at (place + 1)) (q : u ≡ written t (at + 1) (instanceCells i))
+    (r : instanceAt text place ≡ ok i next) where
+  abbrev slab : List ℕ
+  slab = (place + 1) ∷ instanceCells i
+
+  slab-count : length slab ≡ shelfWidth
+  slab-count = let z = cells-count i in omega arith
+
+  whole : u ≡ written s (shelfAt k) slab
+  unfolding written
+  whole = rw (q, p, e)
+
+  cell-other : (j : ℕ) → (shelfAt k ≤ j → shelfAt k + shelfWidth ≤ j) → cellOf u j ≡ cellOf s j
+  cell-other j f = rw whole (written-other s (shelfAt k) slab j (λ m. let z = slab-count in let w = f m in omega arith))
+
+  cell-own : (j : ℕ) → j < shelfWidth → cellOf u (shelfAt k + j) ≡ getD slab j 0
+  cell-own j m = rw whole (written-same s (shelfAt k) slab j (let z = slab-count in omega arith) (let z = slab-count in omega arith))
+
+  own-place : {other : ℕ} → cellOf u (shelfAt k) ≡ other + 1 → other ≡ place
+  own-place f =
+      let n : shelfAt k + 0 ≡ shelfAt k = omega arith in
+      let z : cellOf u (shelfAt k) ≡ place + 1 = rw n at (cell-own 0 (omega arith)) in
+      omega arith
+
+  own-instance : instanceIn u (shelfAt k + 1) ≡ i
+  own-instance =
+      instance-same u (instanceCells i) (shelfAt k + 1) 0
+      (λ j m.
+      let n : shelfAt k + 1 + j ≡ shelfAt k + suc j = omega arith in
+      let z : 0 + j ≡ j = omega arith in
+      rw (n, z) (cell-own (suc j) (omega arith)))
+      ∙ instance-back i
+
+  own-given : {other : ℕ} → cellOf u (shelfAt k) ≡ other + 1 → GivenAt text other (instanceIn u (shelfAt k + 1))
+  own-given f = record { next = next; reads = rw (own-place f, own-instance) r }
+
+  other-given : (m other : ℕ) → m < shelfCount → ((j : ℕ) → j < shelfWidth → shelfAt k ≤ shelfAt m + j → shelfAt k + shelfWidth ≤ shelfAt m + j)
+      → cellOf u (shelfAt m) ≡ other + 1 → GivenAt text other (instanceIn u (shelfAt m + 1))
+  other-given m other n apart f =
+      let z : shelfAt m + 0 ≡ shelfAt m = omega arith in
+      let first : cellOf u (shelfAt m) ≡ cellOf s (shelfAt m) = rw z at (cell-other (shelfAt m + 0) (apart 0 (omega arith))) in
+      let g : GivenAt text other (instanceIn s (shelfAt m + 1)) = h .each m other n (sym first ∙ f) in
+      let same : instanceIn u (shelfAt m + 1) ≡ instanceIn s (shelfAt m + 1) =
+      instance-same u s (shelfAt m + 1) (shelfAt m + 1)
+      (λ j w.
+      let y : shelfAt m + 1 + j ≡ shelfAt m + (1 + j) = omega arith in
+      rw y (cell-other (shelfAt m + (1 + j)) (apart (1 + j) (omega arith)))) in
+      rw same g
+
+  each-given : (m other : ℕ) → m < shelfCount → cellOf u (shelfAt m) ≡ other + 1 → GivenAt text other (instanceIn u (shelfAt m + 1))
+  each-given m other n = by (ltb m k) (ltb k m) refl refl
+    where
+      by : (a b : Bool) → ltb m k ≡ a → ltb k m ≡ b → cellOf u (shelfAt m) ≡ other + 1 → GivenAt text other (instanceIn u (shelfAt m + 1))
+      by true b x y = let w : m < k = ltb-true m k x in other-given m other n (λ j c d. omega arith)
+      by false true x y = let w : k < m = ltb-true k m y in other-given m other n (λ j c d. omega arith)
+      by false false x y = let w : m ≡ k = omega (arith, ltb-false m k x, ltb-false k m y) in rw w (λ f. own-given f)
+
+  pub shelf-put : Shelving text s u
+  shelf-put =
+      record {
+        shelved = record { each = λ m other n f. each-given m other n f };
+        stay = record { same = rw whole (written-length s (shelfAt k) slab); cells = λ j m. cell-other j (λ w. absurd (omega arith)) };
+      }
+
+-- a pass that keeps instances, one after another
+pub record Ongoing (text s u : List ℕ) : Type 0 where
+  pub keeps : Shelving text s u
+  pub long : recallSize ≤ length u
+
+pub keeps-none : (text s : List ℕ) → Shelved text s → Shelving text s s
+keeps-none text s h = record { shelved = h; stay = stay-all s }
+
+pub ongoing-start : (text s : List ℕ) → Shelved text s → recallSize ≤ length s → Ongoing text s s
+ongoing-start text s h l = record { keeps = keeps-none text s h; long = l }
+
+pub ongoing-next : (text : List ℕ) {s t u : List ℕ} → Ongoing text s t → Shelving text t u → Ongoing text s u
+ongoing-next text p k =
+    record {
+      keeps = record { shelved = k .shelved; stay = stay-more (p .keeps .stay) (k .stay) };
+      long = let z = k .stay .same in let w = p .long in omega arith;
+    }
+
+-- empty shelves
+pub record Clearing (s u : List ℕ) (shelf : ℕ) : Type 0 where
+  pub long : recallSize ≤ length s
+  pub empty : (k : ℕ) → k < shelf → cellOf u (shelfAt k) ≡ 0
+  pub stay : ShapesStay s u
+
+pub clearing-start : (s : List ℕ) → recallSize ≤ length s → Clearing s s 0
+clearing-start s l = record { long = l; empty = λ k m. absurd (omega arith); stay = stay-all s }
+
+module _ (s : List ℕ) {u : List ℕ} {shelf : ℕ} (c : Clearing s u shelf) where
+  pub clearing-end : shelfCount ≤ shelf → Cleared s u
+  clearing-end h = record { empty = λ k m. c .empty k (omega arith); stay = c .stay }
+
+  pub clearing-next : {at : ℕ} {v : List ℕ} → shelf < shelfCount → at ≡ shelfAt shelf → v ≡ set u at 0 → Clearing s v (shelf + 1)
+  clearing-next {at} {v} h e f =
+      let whole : v ≡ set u (shelfAt shelf) 0 = f ∙ ap (λ (n : ℕ). set u n 0) e in
+      record {
+        long = c .long;
+        empty = λ k m. rw whole (by k (ltb k shelf) refl m);
+        stay =
+            record {
+              same = rw whole (length-set u (shelfAt shelf) 0 ∙ c .stay .same);
+              cells = λ j m. rw whole (getD-set-other u (shelfAt shelf) j 0 0 (λ z. omega arith) ∙ c .stay .cells j m);
+            };
+      }
+    where
+      by : (k : ℕ) (b : Bool) → ltb k shelf ≡ b → k < shelf + 1 → cellOf (set u (shelfAt shelf) 0) (shelfAt k) ≡ 0
+      by k true x m =
+          let w : k < shelf = ltb-true k shelf x in
+          getD-set-other u (shelfAt shelf) (shelfAt k) 0 0 (λ z. omega arith) ∙ c .empty k w
+      by k false x m =
+          let w : k ≡ shelf = omega (arith, ltb-false k shelf x) in
+          rw w (getD-set-same u (shelfAt shelf) 0 0 (let z = c .stay .same in let y = c .long in omega arith))
+
+-- a pass that begins with empty shelves
+module _ (text : List ℕ) {s t : List ℕ} (c : Cleared s t) where
+  pub cleared-start : recallSize ≤ length s → Ongoing text t t
+  cleared-start l =
+      ongoing-start text t (record { each = λ k place m e. absurd (let z = c .empty k m in omega arith) })
+      (let z = c .stay .same in omega arith)
+
+  pub cleared-end : {u : List ℕ} → Ongoing text t u → Shelving text s u
+  cleared-end p = record { shelved = p .keeps .shelved; stay = stay-more (c .stay) (p .keeps .stay) }

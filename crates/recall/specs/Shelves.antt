@@ -1,0 +1,50 @@
+-- The shelves behind the shapes: 1,024 of 33 cells, each with the place of an instance and one more, or 0, and then this instance. Which
+-- instances are kept is a matter of speed, and nothing is claimed of it.
+use mathlib.Core.Path.{_≡_}
+use mathlib.Core.List.{List}
+use Prim.Native.Nat.{ℕ, _+_, _*_, _<_}
+use lib.ListN.{length}
+use Rattle.basics.specs.Slices.{cellOf}
+use Rattle.parts.specs.Reading.{ok}
+use Rattle.parts.specs.Parts.{instanceAt}
+use Rattle.parts.specs.declared.Instance.{Instance}
+use Rattle.sizes.specs.Shapes.{shapesSize}
+use Rattle.recall.specs.Encoded.{instanceIn}
+
+abbrev pub shelfCount : ℕ
+shelfCount = 1024
+
+abbrev pub shelfWidth : ℕ
+shelfWidth = 33
+
+-- the cells of the shapes and of the shelves
+abbrev pub recallSize : ℕ
+recallSize = shapesSize + shelfCount * shelfWidth
+
+-- the first cell of a shelf
+abbrev pub shelfAt : ℕ → ℕ
+shelfAt k = shapesSize + k * shelfWidth
+
+-- the text gives this instance at a place
+pub record GivenAt (text : List ℕ) (place : ℕ) (i : Instance) : Type 0 where
+  pub next : ℕ
+  pub reads : instanceAt text place ≡ ok i next
+
+-- a shelf is empty, or holds what the text gives at its place
+pub record Shelved (text s : List ℕ) : Type 0 where
+  pub each : (k place : ℕ) → k < shelfCount → cellOf s (shelfAt k) ≡ place + 1 → GivenAt text place (instanceIn s (shelfAt k + 1))
+
+-- the shapes stay, and the length
+pub record ShapesStay (s u : List ℕ) : Type 0 where
+  pub same : length u ≡ length s
+  pub cells : (j : ℕ) → j < shapesSize → cellOf u j ≡ cellOf s j
+
+-- what a pass that keeps instances leaves
+pub record Shelving (text s u : List ℕ) : Type 0 where
+  pub shelved : Shelved text u
+  pub stay : ShapesStay s u
+
+-- what is left where all shelves are emptied
+pub record Cleared (s u : List ℕ) : Type 0 where
+  pub empty : (k : ℕ) → k < shelfCount → cellOf u (shelfAt k) ≡ 0
+  pub stay : ShapesStay s u
