@@ -69,9 +69,11 @@ def last_over_first():
 
 
 def short_sums():
-    """Seven levels of regfiles with one instance each, 1,024 of the outmost, a sum of 56 bytes in each instance, and a comment."""
-    address = " @ 0" + "+0" * 28
-    text = f"regfile r0 {{ {REG} a{address}; }}; "
+    """Seven levels of regfiles with one instance each, 1,024 of the outmost, four fields in the register: a sum of some 55 bytes in each
+    instance, of the operator before which most rows are tried; and a comment that fills the text."""
+    address = " @ 0" + "|0" * 28
+    fields = ", ".join(f"{name}[{'|'.join([bit] * 13)}:{'|'.join([bit] * 13)}]" for name, bit in zip("abcd", "0123"))
+    text = f"regfile r0 {{ reg {{ field {{}} {fields}; }} a{address}; }}; "
     for level in range(6):
         text += f"regfile r{level + 1} {{ r{level} b{address}; }}; "
     return filled(text + "addrmap m { r6 b[1024]; };", "", "x")
@@ -93,7 +95,7 @@ TEXTS = {
     "short sums": short_sums,
 }
 # those of the rules stage that take long there, and those with sums
-CHOSEN = "b b2 c2 c3 d e2 g j i i2 i3 i4 i6".split()
+CHOSEN = "b b2 c2 c3 d e2 g j j2 i i2 i3 i4 i6".split()
 TEXTS.update({label: make for label, _, make in measure_rules.TEXTS if label in CHOSEN})
 
 

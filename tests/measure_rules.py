@@ -15,6 +15,7 @@ import struct
 import subprocess
 import sys
 import tempfile
+from functools import cache
 from itertools import count, islice, product, repeat
 
 from word_cases import KEYWORDS
@@ -171,6 +172,7 @@ def summed_field():
     return with_sum(FIELD_TYPES + REGISTER + "R first[0:", "];W second[0:0];" + fields + USED)
 
 
+@cache
 def one_fingerprint(count=7000):
     """Names of eight bytes that share a fingerprint (crates/identifiers): a beginning of four bytes, and an ending that makes up for it."""
     factor, bound = 16777619, 1 << 32
@@ -185,14 +187,8 @@ def one_fingerprint(count=7000):
 
     beginnings = dict(islice(prints(FIRST, 4), 0, 1 << 22, 2))
     shift = pow(factor, -4, bound)
-    found = 0
-    for value, ending in prints(LATER, 4):
-        beginning = beginnings.get((12345 - value) * shift % bound)
-        if beginning:
-            yield beginning + ending
-            found += 1
-            if found == count:
-                return
+    pairs = ((beginnings.get((12345 - value) * shift % bound), ending) for value, ending in prints(LATER, 4))
+    return list(islice((beginning + ending for beginning, ending in pairs if beginning), count))
 
 
 TEXTS = [
@@ -210,6 +206,7 @@ TEXTS = [
     ("g2", "the same, type names of 31 bytes that differ at the end", lambda: many_types(names_of("t" * 28, 3), short_names())),
     ("h", "instance names of 31 bytes that differ at the end", lambda: instances(names_of("a" * 26, 5))),
     ("j", "7,000 instances in one body whose names share a fingerprint", lambda: instances(one_fingerprint())),
+    ("j2", "as many as fit of such names behind 23 equal bytes", lambda: instances("a" * 23 + name for name in one_fingerprint())),
     ("i", "a sum of 65,000 bytes as an address", lambda: with_sum("addrmap m{reg{field{}f;}a@", ";};")),
     ("i2", "a sum of 65,000 bytes as the value of a reset", lambda: with_sum("addrmap m{reg{field{reset=", ";}f;}a;};")),
     ("i3", "128 fields in one register, a sum of 64,000 bytes in the first", summed_field),
