@@ -1,4 +1,5 @@
 // What every stage needs: a number that may be given, a fault that may be found, the numbers of a slice, and the limits by name.
+ghost use mathlib.Core.Bool.{_||_};
 ghost use mathlib.Core.Path.{_≡_};
 ghost use lib.ListN.{set};
 ghost use Rattle.basics.specs.Given.{isGiven, orElse, givenFrom, flagOf, numberOf};
@@ -110,6 +111,16 @@ pub fn first_of(earlier: Fault, later: Fault) -> Fault
         Fault::None => later,
         Fault::Refused(number, place) => Fault::Refused(number, place),
     }
+}
+
+// Whether one of two holds; the code asks so where `||` would leave the prover two ways to join.
+pub fn either(one: bool, other: bool) -> bool
+    ensures { λ r. ⌜ r ≡ (one || other) ⌝ }
+{
+    if one {
+        return true;
+    }
+    other
 }
 
 // A cell; 0 past the end.

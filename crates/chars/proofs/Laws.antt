@@ -57,6 +57,10 @@ module _ (P : ℕ → Bool) (t : List ℕ) (i : ℕ) {x : ℕ} (at : runEnd P t 
 
 pub ruleset runs = (run-stop-end, run-more, run-stop)
 
+-- what is true is not false
+pub differ : {X : Type 0} → true ≡ false → X
+differ e = absurd (let z : _≡_ {A = ℕ} 0 1 = cc in omega arith)
+
 -- what holds of each choice, where its test holds
 pub either : {A : Type 0} (Q : A → Type 0) (t : Bool) {x y : A} → (t ≡ true → Q x) → (t ≡ false → Q y) → Q (if t then x else y)
 either Q true p q = p refl

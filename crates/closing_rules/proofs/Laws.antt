@@ -7,6 +7,7 @@ use native.Mathlib.Numerals.{add-one}
 use native.Mathlib.Omega.{arith}
 use lib.Dec.{eqb}
 use borrow.Author.Tests.{eq-eqb, ne-eqb, lt-ltb, le-ltb}
+use Rattle.chars.proofs.Laws.{or-false}
 use Rattle.parts.specs.declared.Kind.the-variants as kind
 use Rattle.parts.specs.declared.Instance.{Instance}
 use Rattle.basics.specs.Limits.{sumBound}
@@ -202,10 +203,6 @@ some-with probe placed.Other fs = refl
 or-moved : (a b c : Bool) → ((a || b) || c) ≡ (a || (b || c))
 or-moved true b c = refl
 or-moved false b c = refl
-
-or-false : (a : Bool) → (a || false) ≡ a
-or-false true = refl
-or-false false = refl
 
 pub broken-made : (b : Broken) (reg : Register) (p : Placed) {x y z u v w : Bool} → x ≡ breaksIn Wide p → y ≡ breaksIn (Outside (reg .width)) p → z ≡ breaksIn (Span (reg .access)) p
     → u ≡ (b .wide || x) → v ≡ (b .outside || y) → w ≡ (b .split || z) → record { wide = u; outside = v; split = w } ≡ brokenWith b reg p

@@ -11,7 +11,7 @@ use fields::Register;
 use parts::Instance;
 use parts::Kind;
 ghost use mathlib.Core.Path.{_≡_};
-ghost use mathlib.Core.Bool.{true, _||_};
+ghost use mathlib.Core.Bool.{true};
 ghost use Prim.Native.Nat.{_+_, _-_, _*_, _≤_, _<_};
 ghost use Rattle.basics.specs.Limits.{sumBound};
 ghost use Rattle.basics.specs.Slices.{cellOf};
@@ -30,15 +30,6 @@ pub struct Broken {
     pub wide: bool,
     pub outside: bool,
     pub split: bool,
-}
-
-fn either(a: bool, b: bool) -> bool
-    ensures { λ r. ⌜ r ≡ (a || b) ⌝ }
-{
-    if a {
-        return true;
-    }
-    b
 }
 
 // A field's instance at its place; an instance with unsound suffixes has none.
@@ -164,9 +155,9 @@ fn broken_with(broken: Broken, register: Register, placed: Placed) -> Broken
     let outside = breaks_in(Probe::Outside(register.width), placed);
     let split = breaks_in(Probe::Span(register.access), placed);
     Broken {
-        wide: either(broken.wide, wide),
-        outside: either(broken.outside, outside),
-        split: either(broken.split, split),
+        wide: basics::either(broken.wide, wide),
+        outside: basics::either(broken.outside, outside),
+        split: basics::either(broken.split, split),
     }
 }
 

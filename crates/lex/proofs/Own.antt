@@ -10,7 +10,7 @@ use borrow.Author.Tests.{ne-eqb}
 use Rattle.chars.specs.Ascii.{isWithin, isBlank, isLetter, isNumberByte, isDigit}
 use Rattle.chars.specs.Run.{run}
 use Rattle.chars.specs.declared.Radix.the-variants.{Decimal}
-use Rattle.chars.proofs.Laws.{either}
+use Rattle.chars.proofs.Laws.{differ, either}
 use Rattle.basics.specs.Limits.{stringLimit}
 use Rattle.vocabulary.specs.Vocabulary.{markOf}
 use Rattle.vocabulary.specs.declared.MarkLookup.{MarkLookup}
@@ -29,12 +29,9 @@ use Rattle.lex.specs.Token.{token, numberWord, numberToken, stringTo, st
 use Rattle.lex.proofs.Bounds.{from-lies}
 use Rattle.lex.proofs.Scan.{blanks-word}
 
-never : {X : Type 0} → true ≡ false → X
-never e = absurd (let z : _≡_ {A = ℕ} 0 1 = cc in omega arith)
-
 -- what is no letter is another byte
 no-letter : (b k : ℕ) → isLetter b ≡ true → isLetter k ≡ false → b ≡ k → ⊥
-no-letter b k e f g = never (sym e ∙ (rw g f))
+no-letter b k e f g = differ (sym e ∙ (rw g f))
 
 letter-starts : (b : ℕ) → isLetter b ≡ true → (isBlank b ≡ false) × (eqb b 47 ≡ false)
 unfolding isBlank isLetter isWithin

@@ -6,7 +6,7 @@ use Prim.Native.Nat.{ℕ, zero, suc, _+_, _-_, _/_, _%_, _<_, _≤_}
 use native.Mathlib.Omega.{arith}
 use lib.Dec.{leb}
 use lib.ListN.{length, set, getD}
-use borrow.Author.Tests.{lt-ltb, le-ltb, le-leb, lt-leb, leb-false}
+use borrow.Author.Tests.{eq-eqb, ne-eqb, lt-ltb, le-ltb, le-leb, lt-leb, leb-false}
 use Rattle.basics.specs.Choice.{if_then_else_}
 use Rattle.basics.specs.Slices.{cellOf}
 use Rattle.chars.specs.Same.{sameBytes}
@@ -17,12 +17,10 @@ use Rattle.parts.specs.declared.NameReading.{NameReading}
 use Rattle.parts.specs.declared.NameReading.the-variants as nameReading
 use Rattle.bits.specs.Bits.{bit}
 use Rattle.identifiers.specs.Names.{bytesOf, printFrom}
-use Rattle.cells.specs.Cells.{entryOf, placeIn, rowIn, leftIn, rightIn}
+use Rattle.basics.specs.Limits.{definitionLimit}
+use Rattle.cells.specs.Cells.{entryPlaces, linkBound, entryOf, placeIn, rowIn, leftIn, rightIn}
 use Rattle.name_tree.specs.declared.Spot.{Spot}
-use Rattle.name_tree.specs.Tree.{goesRight, isSpelt, isEntryNamed, someNamed, linkIn, below, Meets, meets-here, meets-below, Leads, leads-root, leads-below, Finds, withLink, linked, grown}
-
-pub differ : {X : Type 0} → true ≡ false → X
-differ e = absurd (let z : _≡_ {A = ℕ} 0 1 = cc in omega arith)
+use Rattle.name_tree.specs.Tree.{goesRight, isSpelt, isEntryNamed, someNamed, linkIn, below, seekFrom, seek, withLink, linked, grown}
 
 -- the side that a name takes
 module _ (name : List ℕ) (depth : ℕ) where
@@ -44,7 +42,7 @@ module _ (text : List ℕ) (place : ℕ) (name : List ℕ) {x : NameReading} (e 
   spelt-stop f = rw (← e, f)
 
 -- the name of a cell's instance
-module _ (text : List ℕ) (x : ℕ) (name : List ℕ) {place : ℕ} {bytes : List ℕ} {s : Bool} (e : (place ≡ placeIn x) × (place < 1048576)) (f : bytes ≡ bytesOf text place (place + length name)) (g : s ≡ sameBytes name bytes) where
+module _ (text : List ℕ) (x : ℕ) (name : List ℕ) {place : ℕ} {bytes : List ℕ} {s : Bool} (e : (place ≡ placeIn x) × (place < entryPlaces)) (f : bytes ≡ bytesOf text place (place + length name)) (g : s ≡ sameBytes name bytes) where
   agree : sameBytes name (bytesOf text (placeIn x) (placeIn x + length name)) ≡ s
   agree = rw (← e .0, ← f) (sym g)
 
@@ -111,58 +109,54 @@ some-none text t name from (suc count) none =
     by true p q = absurd (none 0 (omega arith) (let n : from + 0 ≡ from = omega arith in rw n p))
     by false p q = q
 
--- how far a name has gone down: to this instance it comes, and what it meets it meets from here
+-- what a name comes to from the instance that the loop is at is what it comes to from the root
 pub record Seeking (text t : List ℕ) (from count : ℕ) (name : List ℕ) (node depth : ℕ) : Type 0 where
   pub deep : depth ≤ node
-  pub inside : 0 < count → node < count
-  pub leads : Leads t from count name node depth
-  pub same : Meets text t from count name 0 0 → Meets text t from count name node depth
+  pub steps : ℕ
+  pub enough : suc count ≤ steps + node
+  pub same : seekFrom steps text t from count name node depth ≡ seek text t from count name
 
 module _ (text t : List ℕ) (from count : ℕ) (name : List ℕ) where
   pub seek-start : Seeking text t from count name 0 0
-  seek-start = record { deep = omega arith; inside = λ h. h; leads = leads-root; same = λ m. m }
+  unfolding seek
+  seek-start = record { deep = omega arith; steps = suc count; enough = omega arith; same = refl }
 
-  pub seek-none : {node depth : ℕ} → Seeking text t from count name node depth → count ≤ node → Finds text t from count name (record { taken = false; node = node; right = false })
-  seek-none {node} s h =
-      let empty : 0 < count → ⊥ = λ p. omega (arith, h, s .inside p) in
-      record {
-        taken = λ e. differ (sym e);
-        free = λ e l. some-none text t name from count (λ j k q. empty (omega (arith, k)));
-        hangs = λ e p. absurd (empty p);
-      }
+  past-end : (steps node depth : ℕ) → count ≤ node → seekFrom steps text t from count name node depth ≡ record { taken = false; node = node; right = false }
+  unfolding seekFrom
+  past-end zero node depth h = refl
+  past-end (suc steps) node depth h = rw (le-leb count node h)
+
+  pub seek-none : {node depth : ℕ} → Seeking text t from count name node depth → count ≤ node → record { taken = false; node = node; right = false } ≡ seek text t from count name
+  seek-none {node} {depth} s h = sym (past-end (s .steps) node depth h) ∙ s .same
 
   module _ {node depth x : ℕ} {b : Bool} (s : Seeking text t from count name node depth) (h : node < count) (e : x ≡ cellOf t (from + node)) (f : b ≡ isEntryNamed text x name) where
     named : isEntryNamed text (cellOf t (from + node)) name ≡ b
     named = rw (← e) (sym f)
 
-    pub seek-taken : b ≡ true → Finds text t from count name (record { taken = true; node = node; right = false })
-    seek-taken y =
-        record {
-          taken = λ _. some-here text t name from count node h (named ∙ y);
-          free = λ p l. differ p;
-          hangs = λ p q. differ p;
-        }
+    here : (steps : ℕ) → suc count ≤ steps + node → b ≡ true → seekFrom steps text t from count name node depth ≡ record { taken = true; node = node; right = false }
+    unfolding seekFrom
+    here zero l y = absurd (omega (arith, l))
+    here (suc steps) l y = rw (lt-leb count node h, named, y)
+
+    pub seek-taken : b ≡ true → record { taken = true; node = node; right = false } ≡ seek text t from count name
+    seek-taken y = sym (here (s .steps) (s .enough) y) ∙ s .same
 
     module _ (y : b ≡ false) {right : Bool} {number : ℕ} (g : right ≡ goesRight name depth) (k : number ≡ below x right node count) where
-      met : Meets text t from count name node depth → Meets text t from count name (below (cellOf t (from + node)) (goesRight name depth) node count) (suc depth)
-      met (meets-here a) = differ (sym a ∙ (named ∙ y))
-      met (meets-below p q m) = rw (← p) m
+      below-here : below (cellOf t (from + node)) (goesRight name depth) node count ≡ number
+      below-here = rw (← e, ← g) (sym k)
 
-      below-here : number ≡ below (cellOf t (from + node)) (goesRight name depth) node count
-      below-here = rw (← e, ← g) k
+      stays : (steps : ℕ) → suc count ≤ steps + node → number ≡ 0 → seekFrom steps text t from count name node depth ≡ record { taken = false; node = node; right = right }
+      unfolding seekFrom
+      stays zero l z = absurd (omega (arith, l))
+      stays (suc steps) l z = rw (lt-leb count node h, named, y, below-here, eq-eqb number 0 z, ← g)
 
-      pub seek-free : number ≡ 0 → Finds text t from count name (record { taken = false; node = node; right = right })
-      seek-free z =
-          let none : below (cellOf t (from + node)) right node count ≡ 0 = rw (← e) (sym k ∙ z) in
-          record {
-            taken = λ p. differ (sym p);
-            free = λ p l. some-none text t name from count (λ j q r. stuck (s .same (l .each j q name r)));
-            hangs = λ p q. record { low = h; depth = depth; leads = s .leads; side = g; none = none };
-          }
-        where
-          stuck : Meets text t from count name node depth → ⊥
-          stuck (meets-here a) = differ (sym a ∙ (named ∙ y))
-          stuck (meets-below p q m) = omega (arith, q, p, below-here, z)
+      goes : (steps : ℕ) → suc count ≤ steps + node → (number ≡ 0 → ⊥) → seekFrom steps text t from count name node depth ≡ seekFrom (steps - 1) text t from count name number (suc depth)
+      unfolding seekFrom
+      goes zero l z = absurd (omega (arith, l))
+      goes (suc steps) l z = let n : suc steps - 1 ≡ steps = omega arith in rw (n, lt-leb count node h, named, y, below-here, ne-eqb number 0 z)
+
+      pub seek-free : number ≡ 0 → record { taken = false; node = node; right = right } ≡ seek text t from count name
+      seek-free z = sym (stays (s .steps) (s .enough) z) ∙ s .same
 
       pub seek-on : (number ≡ 0 → ⊥) → Seeking text t from count name number (depth + 1)
       seek-on z =
@@ -170,24 +164,24 @@ module _ (text t : List ℕ) (from count : ℕ) (name : List ℕ) where
           let n : depth + 1 ≡ suc depth = omega arith in
           record {
             deep = omega (arith, s .deep, w .later);
-            inside = λ _. w .within;
-            leads = rw n (leads-below (s .leads) below-here (omega (arith, z)));
-            same = λ m. rw (n, below-here) (met (s .same m));
+            steps = s .steps - 1;
+            enough = omega (arith, s .enough, w .later, h);
+            same = rw n (sym (goes (s .steps) (s .enough) z) ∙ s .same);
           }
 
 -- the code's ways to a link and to the cells
-pub link-right : (right : Bool) (x : ℕ) {r : ℕ} → right ≡ true → (r ≡ rightIn x) × (r < 262144) → r ≡ linkIn right x
+pub link-right : (right : Bool) (x : ℕ) {r : ℕ} → right ≡ true → (r ≡ rightIn x) × (r < linkBound) → r ≡ linkIn right x
 link-right right x e f = rw e (f .0)
 
-pub link-left : (right : Bool) (x : ℕ) {r : ℕ} → right ≡ false → (r ≡ leftIn x) × (r < 262144) → r ≡ linkIn right x
+pub link-left : (right : Bool) (x : ℕ) {r : ℕ} → right ≡ false → (r ≡ leftIn x) × (r < linkBound) → r ≡ linkIn right x
 link-left right x e f = rw e (f .0)
 
-module _ (right : Bool) (number x : ℕ) {place row : ℕ} (p : (place ≡ placeIn x) × (place < 1048576)) (q : (row ≡ rowIn x) × (row < 256)) where
-  pub link-made-right : {left y : ℕ} → right ≡ true → (left ≡ leftIn x) × (left < 262144) → y ≡ entryOf place row left number → y ≡ withLink right number x
+module _ (right : Bool) (number x : ℕ) {place row : ℕ} (p : (place ≡ placeIn x) × (place < entryPlaces)) (q : (row ≡ rowIn x) × (row < definitionLimit)) where
+  pub link-made-right : {left y : ℕ} → right ≡ true → (left ≡ leftIn x) × (left < linkBound) → y ≡ entryOf place row left number → y ≡ withLink right number x
   unfolding withLink
   link-made-right e f g = rw (e, ← p .0, ← q .0, ← f .0) g
 
-  pub link-made-left : {beside y : ℕ} → right ≡ false → (beside ≡ rightIn x) × (beside < 262144) → y ≡ entryOf place row number beside → y ≡ withLink right number x
+  pub link-made-left : {beside y : ℕ} → right ≡ false → (beside ≡ rightIn x) × (beside < linkBound) → y ≡ entryOf place row number beside → y ≡ withLink right number x
   unfolding withLink
   link-made-left e f g = rw (e, ← p .0, ← q .0, ← f .0) g
 

@@ -1,4 +1,5 @@
 pub mod Laws
+pub mod Finding
 pub mod Names
 pub mod Growing
 pub mod InstanceName

@@ -8,7 +8,7 @@ use lib.ListN.{length, length-take, length-drop}
 use borrow.Author.Tests.{eq-eqb}
 use Rattle.basics.specs.Slices.{cellOf}
 use Rattle.chars.specs.Same.{sameBytes}
-use Rattle.chars.proofs.Laws.{same-equal}
+use Rattle.chars.proofs.Laws.{differ, same-equal}
 use Rattle.parts.specs.Parts.{nameAt}
 use Rattle.parts.specs.declared.Name.{Name}
 use Rattle.identifiers.specs.Names.{bytesOf, sameName, isAmong}
@@ -17,7 +17,6 @@ use Rattle.cells.specs.Definitions.{Child, namesOf}
 use Rattle.cells.specs.Relation.{IsEntry, Block, block-end, block-on}
 use Rattle.name_tree.specs.Tree.{isSpelt, isEntryNamed, someNamed}
 use Rattle.name_tree.proofs.InstanceName.{instance-named, begins-inside}
-use Rattle.name_tree.proofs.Laws.{differ}
 
 pub same-own : (s : List ℕ) → sameBytes s s ≡ true
 unfolding sameBytes

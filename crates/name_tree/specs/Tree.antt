@@ -4,7 +4,7 @@ use mathlib.Core.Path.{_≡_}
 use mathlib.Core.Bool.{Bool, true, false, _||_, _&&_}
 use mathlib.Core.List.{List}
 use Prim.Native.Nat.{ℕ, zero, suc, _+_, _-_, _/_, _%_, _<_}
-use lib.Dec.{ltb, leb}
+use lib.Dec.{eqb, ltb, leb}
 use lib.ListN.{length, set, getD}
 use Rattle.basics.specs.Choice.{if_then_else_}
 use Rattle.basics.specs.Slices.{cellOf}
@@ -67,7 +67,22 @@ pub record Hangs (t : List ℕ) (from count : ℕ) (name : List ℕ) (node : ℕ
   pub side : right ≡ goesRight name depth
   pub none : below (cellOf t (from + node)) right node count ≡ 0
 
--- what `find` answers
+-- where a name comes to from an instance at a depth, in at most so many steps: one that has it, or one with none below on its side
+unfoldable pub seekFrom : ℕ → List ℕ → List ℕ → ℕ → ℕ → List ℕ → ℕ → ℕ → Spot
+seekFrom zero text t from count name node depth = record { taken = false; node = node; right = false }
+seekFrom (suc steps) text t from count name node depth =
+    let x = cellOf t (from + node) in
+    let number = below x (goesRight name depth) node count in
+    if leb count node then record { taken = false; node = node; right = false } else
+    if isEntryNamed text x name then record { taken = true; node = node; right = false } else
+    if eqb number 0 then record { taken = false; node = node; right = goesRight name depth } else
+    seekFrom steps text t from count name number (suc depth)
+
+-- the same from the root: each step leads to a later instance, so there are no more steps than instances
+unfoldable pub seek : List ℕ → List ℕ → ℕ → ℕ → List ℕ → Spot
+seek text t from count name = seekFrom (suc count) text t from count name 0 0
+
+-- what it says of the body
 pub record Finds (text t : List ℕ) (from count : ℕ) (name : List ℕ) (spot : Spot) : Type 0 where
   pub taken : spot .taken ≡ true → someNamed text t from count name ≡ true
   pub free : spot .taken ≡ false → Linked text t from count → someNamed text t from count name ≡ false

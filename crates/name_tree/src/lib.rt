@@ -8,7 +8,7 @@ ghost use Rattle.basics.specs.Limits.{textLimit, definitionLimit};
 ghost use Rattle.parts.specs.Parts.{nameAt};
 ghost use Rattle.identifiers.specs.Names.{printFrom};
 ghost use Rattle.cells.specs.Cells.{entryPlaces, linkBound};
-ghost use Rattle.name_tree.specs.Tree.{goesRight, isSpelt, isEntryNamed, linkIn, below, withLink, linked, grown, Finds};
+ghost use Rattle.name_tree.specs.Tree.{goesRight, isSpelt, isEntryNamed, linkIn, below, seek, withLink, linked, grown};
 
 // How many bits a fingerprint has.
 const PRINT_BITS: usize = 32;
@@ -85,7 +85,7 @@ fn below_of(entry: u64, right: bool, node: usize, count: usize) -> usize
 // Where a name stands among the instances of a body, which are so many from a cell on.
 pub fn find(text: &[u8], cells: &[u64], from: usize, count: usize, name: &[u8]) -> Spot
     requires { ⌜ (from + count ≤ entryPlaces) × (length (now name) ≤ textLimit) ⌝ }
-    ensures { λ r. ⌜ Finds (now (text .entry)) (now (cells .entry)) from count (now (name .entry)) r ⌝ }
+    ensures { λ r. ⌜ r ≡ seek (now (text .entry)) (now (cells .entry)) from count (now (name .entry)) ⌝ }
 {
     let print = identifiers::print_of(name);
     let mut node = 0;

@@ -5,6 +5,7 @@ use mathlib.Core.List.{List, [], _∷_}
 use mathlib.Core.Logic.{_⊎_, inl, inr}
 use Prim.Native.Nat.{ℕ, _<_, _≤_}
 use native.Mathlib.Omega.{arith}
+use Rattle.chars.proofs.Laws.{differ}
 use Rattle.basics.specs.All.{In, in-here, in-later}
 use Rattle.basics.specs.Choice.{if_then_else_}
 use Rattle.lex.specs.Words.{wordsVerdict}
@@ -23,9 +24,6 @@ use Rattle.order_laws.proofs.Sorted.{checks-ordered}
 
 apart : {X : Type 0} {n p : ℕ} → finding.None ≡ finding.Refused n p → X
 apart e = absurd (let z : _≡_ {A = ℕ} 0 1 = cc in omega arith)
-
-unlike : {X : Type 0} → true ≡ false → X
-unlike e = absurd (let z : _≡_ {A = ℕ} 0 1 = cc in omega arith)
 
 -- the first check that fails, or none
 first-none : {cs : List Check} {c : Check} → firstFailing cs ≡ finding.None → In c cs → c .fails ≡ false
@@ -71,7 +69,7 @@ first-smallest {n = n} {p} {c} (ordered-on {cs = cs} o r) e in-here f = by (c .f
         let x : c .number ≡ n = cc in
         let y : c .place ≡ p = cc in
         inr (sym y, omega arith)
-    by false g q = unlike (sym g)
+    by false g q = differ (sym g)
 first-smallest {n = n} {p} {c} (ordered-on {c = d} {cs = cs} o r) e (in-later i) f = by (d .fails) (o c i) (λ q. first-smallest r q i f) e
   where
     by : (b : Bool) → Before d c → (firstFailing cs ≡ finding.Refused n p → NotAfter n p c) → (if b then finding.Refused (d .number) (d .place) else firstFailing cs) ≡ finding.Refused n p → NotAfter n p c
@@ -119,4 +117,4 @@ module _ (text : List ℕ) {b : Body} {m : ℕ} (sentences : fileAt text ≡ ok 
     where
       by : (j : Judged Meaning) → ruled text ≡ j → Foremost (checksOf text b) j
       by (fault n p) e = record { number = n; place = p; answer = refl; among = among words e; smallest = smallest words e }
-      by (fine x) e = unlike (sym f ∙ none e c i)
+      by (fine x) e = differ (sym f ∙ none e c i)

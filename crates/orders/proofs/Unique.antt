@@ -6,7 +6,7 @@ use native.Mathlib.Omega.{arith}
 use native.Mathlib.Decide.{decLt}
 use borrow.Author.Tests.{eq-eqb, ne-eqb}
 use Rattle.basics.specs.Choice.{if_then_else_}
-use Rattle.orders.specs.Order.{digit}
+use Rattle.bits.specs.Bits.{digit}
 use Rattle.orders.specs.declared.Bounds.{Bounds}
 use Rattle.orders.specs.Unique.{meets, unique, firstFrom, firstMeeting, SomeMeeting, narrowBy}
 

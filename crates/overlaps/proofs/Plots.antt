@@ -31,7 +31,7 @@ use Rattle.map_walk.specs.Runs.{trailWidth, stepCells, logWidth}
 use Rattle.map_walk.specs.Walks.{LogRow, visitAt, noVisit, elementsOf, registersOf}
 use Rattle.overlaps.specs.declared.Plot.{Plot}
 use Rattle.overlaps.specs.Charted.{Charted, plotIn}
-use Rattle.overlaps.specs.Sweeps.{registerCount, startIn, spanIn, clash, clashIn, LowStarts, Sweepable}
+use Rattle.overlaps.specs.Sweeps.{registerCount, startIn, stretchIn, clash, clashIn, LowStarts, Sweepable}
 use Rattle.basics.proofs.All.{all-at}
 use Rattle.overlaps.proofs.Access.{register-once}
 use Rattle.overlaps.proofs.Visits.{padded-cell, seen-length, seen-place, register-size, register-whole, RegisterSeen, registers-seen}
@@ -52,8 +52,8 @@ place-read log i p q = q ∙ ap (λ (n : ℕ). cellOf log (i * logWidth + 3 * n)
 
 pub span-read : (table : List Definition) (s log : List ℕ) (i : ℕ) {p : Plot} {wa ra : ℕ} {w r : Bool} → p ≡ plotIn s log i
     → wa ≡ accessCode access.W → w ≡ hasAccess table wa (p .row) → ra ≡ accessCode access.R → r ≡ hasAccess table ra (p .row)
-    → record { start = p .address .0; end = p .address .0 + p .size; readable = not w; writable = not r } ≡ spanIn table s log i
-unfolding spanIn
+    → record { start = p .address .0; end = p .address .0 + p .size; readable = not w; writable = not r } ≡ stretchIn table s log i
+unfolding stretchIn
 span-read table s log i f a g b h = rw (g, a, h, b, f)
 
 -- the accesses of a type's fields
@@ -119,8 +119,8 @@ module _ (text t s log : List ℕ) (e : Extent) (row : ℕ) (c : Charted text t 
   pub plot-sum : {p : Plot} → p ≡ plotIn s log i → p .address .0 + p .size < 2 ^ 64
   plot-sum f = rw f (omega (arith, plot-end))
 
-  span-full : spanIn (known text t e) s log i .start < spanIn (known text t e) s log i .end
-  unfolding spanIn
+  span-full : stretchIn (known text t e) s log i .start < stretchIn (known text t e) s log i .end
+  unfolding stretchIn
   span-full = omega (arith, plot-of .size, register-size text t e (visit .type) (seen-at .type))
 
   start-low : startIn log i ≤ addressEnd
@@ -176,7 +176,7 @@ module _ (text t s log : List ℕ) (e : Extent) (c : Charted text t s log e (e .
 
   clash-overlaps : (i j : ℕ) → i < registerCount text t e → j < registerCount text t e
       → clashIn text t s log e i j ≡ overlapRegisters (known text t e) (allShapes text t e) (visitAt registers j) (visitAt registers i)
-  unfolding clash spanIn overlapRegisters
+  unfolding clash stretchIn overlapRegisters
   clash-overlaps i j h l =
       let a = plot-of text t s log e (e .map) c i h in
       let b = plot-of text t s log e (e .map) c j l in
@@ -272,8 +272,8 @@ module _ (text t s log : List ℕ) (e : Extent) where
     pub order-charted : Charted text t s log e (e .map)
     order-charted = w .charted
 
-    pub lined : Lined (spanIn (known text t e) s log) (registerCount text t e) order
-    unfolding spanIn plotIn
+    pub lined : Lined (stretchIn (known text t e) s log) (registerCount text t e) order
+    unfolding stretchIn plotIn
     lined =
         record {
           number = startIn log;

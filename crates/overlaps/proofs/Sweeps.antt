@@ -11,12 +11,12 @@ use borrow.Author.Tests.{lt-ltb, le-ltb, ltb-true, ltb-false, not-true, not-fals
 use Rattle.basics.specs.Choice.{if_then_else_}
 use Rattle.basics.specs.Limits.{registerLimit}
 use Rattle.chars.proofs.Laws.{and-false}
-use Rattle.orders.specs.Order.{digit}
-use Rattle.orders.specs.Keys.{Ordered, itemAt}
+use Rattle.bits.specs.Bits.{digit}
+use Rattle.orders.specs.Keys.{InOrder, itemAt}
 use Rattle.orders.specs.Unique.{SomeMeeting}
 use Rattle.orders.proofs.Keys.{Standing, item-stands, item-low, items-differ, items-up}
 use Rattle.orders.proofs.Unique.{meets-pair, unique-apart}
-use Rattle.overlaps.specs.declared.Span.{Span}
+use Rattle.overlaps.specs.declared.Stretch.{Stretch}
 use Rattle.overlaps.specs.declared.Side.{Side}
 use Rattle.overlaps.specs.Sweeps.{clash, sideOf, Reaches}
 use Rattle.overlaps.proofs.Overlaps.{or-true}
@@ -36,7 +36,7 @@ and-turned true false = refl
 and-turned false true = refl
 and-turned false false = refl
 
-module _ (at : ℕ → Span) where
+module _ (at : ℕ → Stretch) where
   abbrev shared : ℕ → ℕ → Bool
   shared i j = ltb (at j .start) (at i .end) && ltb (at i .start) (at j .end)
 
@@ -118,7 +118,7 @@ module _ (side : Side) (b : Bool) (start : ℕ) where
 -- ---- what is kept of the registers passed
 
 -- whose end a side has
-pub record Holding (at : ℕ → Span) (belongs : Span → Bool) (order : List ℕ) (limit i : ℕ) (side : Side) : Type 0 where
+pub record Holding (at : ℕ → Stretch) (belongs : Stretch → Bool) (order : List ℕ) (limit i : ℕ) (side : Side) : Type 0 where
   pub place : ℕ
   pub passed : place < i
   pub number : numberAt order place ≡ side .who
@@ -127,11 +127,11 @@ pub record Holding (at : ℕ → Span) (belongs : Span → Bool) (order : List �
   pub counts : belongs (at (side .who)) ≡ true
 
 -- a side has the furthest end of those passed that belong to it
-pub record Kept (at : ℕ → Span) (belongs : Span → Bool) (order : List ℕ) (limit i : ℕ) (side : Side) : Type 0 where
+pub record Kept (at : ℕ → Stretch) (belongs : Stretch → Bool) (order : List ℕ) (limit i : ℕ) (side : Side) : Type 0 where
   pub covers : (k : ℕ) → k < i → numberAt order k < limit → belongs (at (numberAt order k)) ≡ true → at (numberAt order k) .end ≤ side .end
   pub holder : 0 < side .end → Holding at belongs order limit i side
 
-module _ (at : ℕ → Span) (belongs : Span → Bool) (order : List ℕ) (limit : ℕ) where
+module _ (at : ℕ → Stretch) (belongs : Stretch → Bool) (order : List ℕ) (limit : ℕ) where
   kept-start : Kept at belongs order limit 0 (record { end = 0; who = 0 })
   kept-start = record { covers = λ k l. absurd (omega arith); holder = λ h. absurd (omega arith) }
 
@@ -176,7 +176,7 @@ module _ (at : ℕ → Span) (belongs : Span → Bool) (order : List ℕ) (limit
           holder = λ o. record { place = i; passed = omega arith; number = refl; low = l; end = refl; counts = b };
         }
 
-    kept-on : {span : Span} → span ≡ at (numberAt order i) → numberAt order i < limit
+    kept-on : {span : Stretch} → span ≡ at (numberAt order i) → numberAt order i < limit
         → Kept at belongs order limit (i + 1) (sideOf side (belongs span) (span .end) (numberAt order i))
     kept-on e l =
         rw e
@@ -187,26 +187,26 @@ module _ (at : ℕ → Span) (belongs : Span → Bool) (order : List ℕ) (limit
         (λ f h. kept-more l f h))
 
 -- registers in the order of their addresses, none of them empty
-pub record Lined (at : ℕ → Span) (n : ℕ) (order : List ℕ) : Type 0 where
+pub record Lined (at : ℕ → Stretch) (n : ℕ) (order : List ℕ) : Type 0 where
   pub number : ℕ → ℕ
-  pub ordered : Ordered number registerLimit n order
+  pub ordered : InOrder number registerLimit n order
   pub starts : (k : ℕ) → at k .start ≡ number k
   pub full : (k : ℕ) → k < n → at k .start < at k .end
 
-abbrev canRead : Span → Bool
+abbrev canRead : Stretch → Bool
 canRead s = s .readable
 
-abbrev canWrite : Span → Bool
+abbrev canWrite : Stretch → Bool
 canWrite s = s .writable
 
 -- no two of the registers passed overlap
-pub record Passing (at : ℕ → Span) (order : List ℕ) (limit i : ℕ) (readable writable : Side) : Type 0 where
+pub record Passing (at : ℕ → Stretch) (order : List ℕ) (limit i : ℕ) (readable writable : Side) : Type 0 where
   pub read : Kept at canRead order limit i readable
   pub write : Kept at canWrite order limit i writable
   pub apart : (k l : ℕ) → k < l → l < i → numberAt order k < limit → numberAt order l < limit
       → clash at (numberAt order k) (numberAt order l) ≡ false
 
-pub passing-start : (at : ℕ → Span) (order : List ℕ) (limit : ℕ)
+pub passing-start : (at : ℕ → Stretch) (order : List ℕ) (limit : ℕ)
     → Passing at order limit 0 (record { end = 0; who = 0 }) (record { end = 0; who = 0 })
 passing-start at order limit =
     record {
@@ -215,7 +215,7 @@ passing-start at order limit =
       apart = λ k l m n. absurd (omega arith);
     }
 
-module _ (at : ℕ → Span) (order : List ℕ) (limit : ℕ) {i : ℕ} {readable writable : Side} (w : Passing at order limit i readable writable)
+module _ (at : ℕ → Stretch) (order : List ℕ) (limit : ℕ) {i : ℕ} {readable writable : Side} (w : Passing at order limit i readable writable)
   where
     pub passing-skip : limit ≤ numberAt order i → Passing at order limit (i + 1) readable writable
     passing-skip h =
@@ -230,25 +230,25 @@ module _ (at : ℕ → Span) (order : List ℕ) (limit : ℕ) {i : ℕ} {readabl
         }
 
     -- an earlier one ends before the register at i, where a side to which both belong does not reach into that one
-    behind : {belongs : Span → Bool} {side : Side} {b : Bool} {span : Span} → Kept at belongs order limit i side
+    behind : {belongs : Stretch → Bool} {side : Side} {b : Bool} {span : Stretch} → Kept at belongs order limit i side
         → Reaches side (belongs span) (span .start) b → b ≡ false → span ≡ at (numberAt order i)
         → (k : ℕ) → k < i → numberAt order k < limit → belongs (at (numberAt order k)) ≡ true → belongs (at (numberAt order i)) ≡ true
         → clash at (numberAt order k) (numberAt order i) ≡ false
     behind {belongs} v r z e k l m p q =
         clash-behind at (numberAt order k) (numberAt order i)
-        (omega (arith, v .covers k l m p, r .free z (ap belongs e ∙ q), ap (λ (s : Span). s .start) e))
+        (omega (arith, v .covers k l m p, r .free z (ap belongs e ∙ q), ap (λ (s : Stretch). s .start) e))
 
-    module _ (h : numberAt order i < limit) {span : Span} (e : span ≡ at (numberAt order i)) {x y : Bool}
+    module _ (h : numberAt order i < limit) {span : Stretch} (e : span ≡ at (numberAt order i)) {x y : Bool}
         (rx : Reaches readable (span .readable) (span .start) x) (x-not : x ≡ false)
         (ry : Reaches writable (span .writable) (span .start) y) (y-not : y ≡ false)
       where
         new-apart : (k : ℕ) → k < i → numberAt order k < limit → clash at (numberAt order k) (numberAt order i) ≡ false
         new-apart k l m = by (u .readable) (v .readable) (u .writable) (v .writable) refl refl refl refl
           where
-            u : Span
+            u : Stretch
             u = at (numberAt order k)
 
-            v : Span
+            v : Stretch
             v = at (numberAt order i)
 
             lawful : (u .readable && v .readable) ≡ false → (u .writable && v .writable) ≡ false
@@ -311,7 +311,7 @@ module _ (at : ℕ → Span) (order : List ℕ) (limit : ℕ) {i : ℕ} {readabl
 abbrev LaterOf : ℕ → ℕ → ℕ → Type 0
 LaterOf a b r = (a ≤ b → r ≡ b) × (b ≤ a → r ≡ a)
 
-later-meets : (at : ℕ → Span) {limit a b r : ℕ} → clash at a b ≡ true → (a ≡ b → ⊥) → a < limit → b < limit → LaterOf a b r
+later-meets : (at : ℕ → Stretch) {limit a b r : ℕ} → clash at a b ≡ true → (a ≡ b → ⊥) → a < limit → b < limit → LaterOf a b r
     → SomeMeeting (clash at) limit r
 later-meets at {limit} {a} {b} c n l m f =
     elim (decLt a b) [
@@ -328,11 +328,11 @@ later-meets at {limit} {a} {b} c n l m f =
           }
     ]
 
-module _ (at : ℕ → Span) (belongs : Span → Bool)
+module _ (at : ℕ → Stretch) (belongs : Stretch → Bool)
     (clash-of : (i j : ℕ) → at j .start < at i .end → at i .start < at j .end → belongs (at i) ≡ true → belongs (at j) ≡ true
     → clash at i j ≡ true)
     {n : ℕ} {order : List ℕ} (o : Lined at n order) {limit i : ℕ} {side : Side} (w : Kept at belongs order limit i side)
-    (h : i < length order) {span : Span} (e : span ≡ at (numberAt order i)) {x : Bool}
+    (h : i < length order) {span : Stretch} (e : span ≡ at (numberAt order i)) {x : Bool}
     (r : Reaches side (belongs span) (span .start) x) (z : x ≡ true)
   where
     holding : Holding at belongs order limit i side
@@ -349,7 +349,7 @@ module _ (at : ℕ → Span) (belongs : Span → Bool)
     stopped =
         let k = holding in
         clash-of (side .who) (numberAt order i)
-        (omega (arith, r .over z, k .end, ap (λ (v : Span). v .start) e))
+        (omega (arith, r .over z, k .end, ap (λ (v : Stretch). v .start) e))
         (omega (arith, starts-up, o .full (numberAt order i) (item-low (o .ordered) i h)))
         (k .counts)
         (sym (ap belongs e) ∙ r .counts z)
@@ -360,8 +360,8 @@ module _ (at : ℕ → Span) (belongs : Span → Bool)
     stops : {g : ℕ} → numberAt order i < limit → LaterOf (side .who) (numberAt order i) g → SomeMeeting (clash at) limit g
     stops m f = later-meets at stopped other (holding .low) m f
 
-module _ (at : ℕ → Span) {n : ℕ} {order : List ℕ} (o : Lined at n order) {limit i g : ℕ} {readable writable : Side}
-    (w : Passing at order limit i readable writable) (h : i < length order) (m : numberAt order i < limit) {span : Span}
+module _ (at : ℕ → Stretch) {n : ℕ} {order : List ℕ} (o : Lined at n order) {limit i g : ℕ} {readable writable : Side}
+    (w : Passing at order limit i readable writable) (h : i < length order) (m : numberAt order i < limit) {span : Stretch}
     (e : span ≡ at (numberAt order i)) {x : Bool}
   where
     pub reader-stops : Reaches readable (span .readable) (span .start) x → x ≡ true → LaterOf (readable .who) (numberAt order i) g

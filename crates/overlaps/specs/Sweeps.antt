@@ -10,14 +10,14 @@ use Rattle.basics.specs.Slices.{cellOf}
 use Rattle.basics.specs.Limits.{registerLimit, addressEnd}
 use Rattle.fields.specs.Codes.{accessCode}
 use Rattle.fields.specs.declared.AccessRight.the-variants as access
-use Rattle.orders.specs.Keys.{Ordered}
+use Rattle.orders.specs.Keys.{InOrder}
 use Rattle.cells.specs.Definitions.{Definition}
 use Rattle.sizes.specs.declared.Extent.{Extent}
 use Rattle.sizes.specs.Ready.{known}
 use Rattle.map_rules.specs.Whole.{hasAccess}
 use Rattle.map_walk.specs.Runs.{logWidth}
 use Rattle.map_walk.specs.Walks.{registersOf}
-use Rattle.overlaps.specs.declared.Span.{Span}
+use Rattle.overlaps.specs.declared.Stretch.{Stretch}
 use Rattle.overlaps.specs.declared.Side.{Side}
 use Rattle.overlaps.specs.Charted.{Charted, plotIn}
 
@@ -30,8 +30,8 @@ abbrev pub startIn : List ℕ → ℕ → ℕ
 startIn log i = cellOf log (i * logWidth)
 
 -- the bytes and the access of a register of the log
-unfoldable pub spanIn : List Definition → List ℕ → List ℕ → ℕ → Span
-spanIn table s log i =
+unfoldable pub stretchIn : List Definition → List ℕ → List ℕ → ℕ → Stretch
+stretchIn table s log i =
     record {
       start = plotIn s log i .address .0;
       end = plotIn s log i .address .0 + plotIn s log i .size;
@@ -40,13 +40,13 @@ spanIn table s log i =
     }
 
 -- two registers by their numbers share a byte, and both are readable or both writable
-unfoldable pub clash : (ℕ → Span) → ℕ → ℕ → Bool
+unfoldable pub clash : (ℕ → Stretch) → ℕ → ℕ → Bool
 clash at i j =
     (ltb (at j .start) (at i .end) && ltb (at i .start) (at j .end)) &&
     ((at i .readable && at j .readable) || (at i .writable && at j .writable))
 
 abbrev pub clashIn : List ℕ → List ℕ → List ℕ → List ℕ → Extent → ℕ → ℕ → Bool
-clashIn text t s log e = clash (spanIn (known text t e) s log)
+clashIn text t s log e = clash (stretchIn (known text t e) s log)
 
 -- addresses that make keys
 pub record LowStarts (log : List ℕ) (n : ℕ) : Type 0 where
@@ -55,7 +55,7 @@ pub record LowStarts (log : List ℕ) (n : ℕ) : Type 0 where
 -- a map's registers in the log, and their keys in order
 pub record Sweepable (text t s log : List ℕ) (e : Extent) (order : List ℕ) : Type 0 where
   pub charted : Charted text t s log e (e .map)
-  pub ordered : Ordered (startIn log) registerLimit (registerCount text t e) order
+  pub ordered : InOrder (startIn log) registerLimit (registerCount text t e) order
 
 -- a side with one register more
 unfoldable pub sideOf : Side → Bool → ℕ → ℕ → Side

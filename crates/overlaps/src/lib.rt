@@ -20,7 +20,7 @@ ghost use Rattle.map_rules.specs.Whole.{hasAccess, overlapping};
 ghost use Rattle.map_walk.specs.Runs.{logWidth};
 ghost use Rattle.map_walk.specs.Walks.{elementsOf, registersOf};
 ghost use Rattle.overlaps.specs.Charted.{Charted, hasIn, plotIn};
-ghost use Rattle.overlaps.specs.Sweeps.{registerCount, startIn, spanIn, clashIn, LowStarts, Sweepable, sideOf, Reaches};
+ghost use Rattle.overlaps.specs.Sweeps.{registerCount, startIn, stretchIn, clashIn, LowStarts, Sweepable, sideOf, Reaches};
 
 // A register of the log: its type's row, its address and its size in bytes.
 pub struct Plot {
@@ -29,9 +29,9 @@ pub struct Plot {
     pub size: u64,
 }
 
-// A register's bytes, up to the one behind its last; and its access: readable where it is not write-only, writable where it is not
-// read-only. Two registers may share a byte unless both are readable or both are writable.
-pub struct Span {
+// A register's bytes, up to the one behind its last; and its access: it counts as readable unless every field is write-only, and as
+// writable unless every field is read-only. Two registers may share a byte unless both count as readable or both as writable.
+pub struct Stretch {
     pub start: u64,
     pub end: u64,
     pub readable: bool,
@@ -101,16 +101,16 @@ fn place_at(log: &[u64], i: usize) -> usize
 }
 
 // The bytes and the access of a register of the log.
-fn span_at(
+fn stretch_at(
     text: &[u8],
     cells: &[u64],
     shapes: &[u64],
     log: &[u64],
     extent: Extent,
     i: usize,
-) -> Span
+) -> Stretch
     requires { ⌜ Charted (now text) (now cells) (now shapes) (now log) extent (extent .map) × (i < registerCount (now text) (now cells) extent) ⌝ }
-    ensures { λ r. ⌜ r ≡ spanIn (known (now (text .entry)) (now (cells .entry)) extent) (now (shapes .entry)) (now (log .entry)) i ⌝ }
+    ensures { λ r. ⌜ r ≡ stretchIn (known (now (text .entry)) (now (cells .entry)) extent) (now (shapes .entry)) (now (log .entry)) i ⌝ }
 {
     let plot = plot_at(shapes, log, i);
     let write_only = has_access(
@@ -127,7 +127,7 @@ fn span_at(
         plot.row,
         fields::access_code(AccessRight::R),
     );
-    Span {
+    Stretch {
         start: plot.address.0,
         end: plot.address.0 + plot.size,
         readable: !write_only,
@@ -190,15 +190,15 @@ fn pass(
         if limit <= number {
             continue;
         }
-        let span = span_at(text, cells, shapes, log, extent, number);
-        if reaches(readable, span.readable, span.start) {
+        let stretch = stretch_at(text, cells, shapes, log, extent, number);
+        if reaches(readable, stretch.readable, stretch.start) {
             return later_of(readable.who, number);
         }
-        if reaches(writable, span.writable, span.start) {
+        if reaches(writable, stretch.writable, stretch.start) {
             return later_of(writable.who, number);
         }
-        readable = side_after(readable, span.readable, span.end, number);
-        writable = side_after(writable, span.writable, span.end, number);
+        readable = side_after(readable, stretch.readable, stretch.end, number);
+        writable = side_after(writable, stretch.writable, stretch.end, number);
     }
     limit
 }

@@ -13,8 +13,8 @@ use Rattle.expressions.specs.Grammar.{numberAt}
 use Rattle.expressions.specs.Answers.{numberRead}
 use Rattle.parts.specs.Reading.{Parsed, ok, stop, andThen, mapped}
 use Rattle.parts.specs.Words.{isName, kindOf, isDefault, isProperty, isMark}
-use Rattle.parts.specs.Parts.{closedBy, nameAt, arrayRestAt, arrayAt, suffixMark, suffixAt, instanceOf, bare, setSuffix, withSuffix, bareAt, suffixedAt, instanceAt, partedAt, listedAt, valueIn, valueAt, property, settingAt, propertyWordAt, propertyAt, headerRestAt, headerAt, startsInstances}
-use Rattle.parts.specs.Ahead.{aheadAt, Stands, Looked, found, refused, looked, placed, spacingAt, startsSpacing, startsSuffix, PartedBy}
+use Rattle.parts.specs.Parts.{closedBy, nameAt, arrayRestAt, arrayAt, suffixMark, suffixAt, instanceOf, bare, setSuffix, withSuffix, bareAt, spacingAt, suffixedAt, instanceAt, partedAt, listedAt, valueIn, valueAt, property, settingAt, propertyWordAt, propertyAt, headerRestAt, headerAt, startsInstances}
+use Rattle.parts.specs.Ahead.{aheadAt, Stands, Looked, found, refused, looked, placed, startsSpacing, startsSuffix, PartedBy}
 use Rattle.parts.specs.Answers.{nameRead, arrayRead, suffixRead, instanceAheadRead, valueRead}
 use Rattle.expressions.specs.declared.Number.{Number}
 use Rattle.expressions.specs.declared.NumberReading.{NumberReading}

@@ -8,7 +8,7 @@ use Rattle.lex.specs.declared.Token.{Token}
 use Rattle.lex.specs.declared.Word.{Word}
 use Rattle.parts.specs.Reading.{Parsed, ok, stop}
 use Rattle.parts.specs.Words.{isMark}
-use Rattle.parts.specs.Parts.{suffixMark, instanceOf, withSuffix, partedAt}
+use Rattle.parts.specs.Parts.{suffixMark, instanceOf, partedAt}
 use Rattle.parts.specs.declared.Ahead.{Ahead}
 use Rattle.parts.specs.declared.Name.{Name}
 use Rattle.parts.specs.declared.Array.{Array}
@@ -37,10 +37,6 @@ looked text (stop number place) = refused number place
 -- an instance that has no suffix yet behind its reset and address
 abbrev pub placed : Name → Array → Suffix → Suffix → Instance
 placed n a r d = instanceOf n a r d suffix.Missing suffix.Missing
-
--- behind what was read of an instance: `+=` and `%=`
-abbrev pub spacingAt : List ℕ → Parsed Instance → Parsed Instance
-spacingAt text p = withSuffix Alignment text (withSuffix Stride text p)
 
 -- a word that begins a stride or an alignment, and one that begins any suffix: before any other word an instance ends
 unfoldable pub startsSpacing : Word → Bool

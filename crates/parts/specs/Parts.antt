@@ -94,12 +94,12 @@ withSuffix s text p = andThen p (λ i next. mapped (λ x. setSuffix s x i) (suff
 unfoldable pub bareAt : List ℕ → ℕ → Parsed Instance
 bareAt text at = andThen (nameAt text at) (λ n next. mapped (bare n) (arrayAt text next))
 
--- behind what was read of an instance: `@`, `+=` and `%=`; before them `=`
-abbrev pub placingAt : List ℕ → Parsed Instance → Parsed Instance
-placingAt text p = withSuffix Alignment text (withSuffix Stride text (withSuffix Address text p))
+-- behind what was read of an instance: `+=` and `%=`; before them `=` and `@`
+abbrev pub spacingAt : List ℕ → Parsed Instance → Parsed Instance
+spacingAt text p = withSuffix Alignment text (withSuffix Stride text p)
 
 abbrev pub suffixedAt : List ℕ → Parsed Instance → Parsed Instance
-suffixedAt text p = placingAt text (withSuffix Reset text p)
+suffixedAt text p = spacingAt text (withSuffix Address text (withSuffix Reset text p))
 
 -- "An instance is a name, then optionally .., in that order"
 unfoldable pub instanceAt : List ℕ → ℕ → Parsed Instance

@@ -9,8 +9,8 @@ use vocabulary::Mark;
 ghost use mathlib.Core.Path.{_≡_};
 ghost use Rattle.expressions.specs.Reading.{ok, mapped};
 ghost use Rattle.parts.specs.Words.{roleOf, roleKind, roleDefault, roleProperty, roleValue, isName, kindOf, isKind, isDefault, isProperty, markNumber, isMark, isEnd};
-ghost use Rattle.parts.specs.Parts.{closedBy, nameAt, arrayRestAt, arrayAt, suffixMark, suffixAt, instanceOf, bare, suffixedAt, instanceAt, listedAt, valueIn, valueAt, property, settingAt, propertyWordAt, propertyAt, headerRestAt, headerAt, isNamed, startsInstances};
-ghost use Rattle.parts.specs.Ahead.{aheadAt, Stands, looked, placed, spacingAt, startsSpacing, startsSuffix, PartedBy};
+ghost use Rattle.parts.specs.Parts.{closedBy, nameAt, arrayRestAt, arrayAt, suffixMark, suffixAt, instanceOf, bare, spacingAt, suffixedAt, instanceAt, listedAt, valueIn, valueAt, property, settingAt, propertyWordAt, propertyAt, headerRestAt, headerAt, isNamed, startsInstances};
+ghost use Rattle.parts.specs.Ahead.{aheadAt, Stands, looked, placed, startsSpacing, startsSuffix, PartedBy};
 ghost use Rattle.parts.specs.Answers.{nameRead, arrayRead, suffixRead, instanceAheadRead, instanceRead, listedRead, valueRead, propertyRead, headerRead};
 
 // The kinds of component.

@@ -22,7 +22,8 @@ use Rattle.cells.specs.Definitions.{Child, Definition, namesOf}
 use Rattle.cells.specs.Relation.{IsEntry, Block}
 use Rattle.cells.proofs.Laws.{entry-place, entry-row}
 use Rattle.name_tree.specs.declared.Spot.{Spot}
-use Rattle.name_tree.specs.Tree.{isEntryNamed, someNamed, Linked, Finds, grown}
+use Rattle.name_tree.specs.Tree.{isEntryNamed, someNamed, Linked, seek, Finds, grown}
+use Rattle.name_tree.proofs.Finding.{seek-finds}
 use Rattle.name_tree.proofs.Names.{same-own, bytes-short, entry-named, block-named}
 use Rattle.name_tree.proofs.InstanceName.{instance-own}
 use Rattle.name_tree.proofs.Growing.{grown-length, grown-last, grown-other, grown-place, grown-row, grown-grows, grows-linked}
@@ -32,10 +33,6 @@ use Rattle.scopes.specs.declared.Scope.{Scope}
 use Rattle.rules.specs.Judge.{judgeInstances}
 use Rattle.rules.specs.Standing.{InstanceRules, HeldList, Typed, added-not, added-one, Adds}
 use Rattle.rules.proofs.Frames.{kept-same, block-alike, block-more, sounds-more}
-
--- a path between two different constructors
-pub differ : {X : Type 0} → true ≡ false → X
-differ e = absurd (let z : _≡_ {A = ℕ} 0 1 = cc in omega arith)
 
 module _ (taken : Bool) (enclosing : Enclosing) (kind : Kind) (i : Instance) where
   pub rules-twice : taken ≡ true → InstanceRules taken enclosing kind i (Refused 6 (i .name .start))
@@ -94,7 +91,10 @@ name-short text start end e h = rw e (omega (arith, h, bytes-short text start en
 
 module _ (text t : List ℕ) (scope : Scope) (row : ℕ) (kind : Kind) (held : ℕ) (i : Instance) {from count : ℕ} {name : List ℕ} {spot : Spot}
     (first : scope .first ≤ held) (a : from ≡ entriesAt + scope .first) (b : count ≡ held - scope .first) (c : name ≡ bytesOf text (i .name .start) (i .name .end))
-    (f : Finds text t from count name spot) where
+    (g : spot ≡ seek text t from count name) where
+  f : Finds text t from count name spot
+  f = rw g (seek-finds text t from count name)
+
   -- the tree tells whether the name stands before
   among : (table : List Definition) (cs : List Child) → HeldList text t (scope .first) table held cs → spot .taken ≡ isAmong text (i .name) (namesOf cs)
   among table cs l =
@@ -134,7 +134,7 @@ module _ (text t : List ℕ) (scope : Scope) (row : ℕ) (kind : Kind) (held : �
         let h : count < linkBound = omega (arith, b, few) in
         let k : 0 < count → spot .node < count = λ p. f .hangs new p .low in
         let w : from + count < length t = omega (arith, a, b, first, few, l .long) in
-        let g = grown-grows t from count spot (i .name .start) row h k w text name (rw c (new-name text row i low small at m reads)) (rw c (new-only text row i low small at m reads)) in
+        let w′ = grown-grows t from count spot (i .name .start) row h k w text name (rw c (new-name text row i low small at m reads)) (rw c (new-only text row i low small at m reads)) in
         let alike : (j : ℕ) → from ≤ j → j < from + length cs → (placeIn (cellOf u j) ≡ placeIn (cellOf t j)) × (rowIn (cellOf u j) ≡ rowIn (cellOf t j)) =
         (λ j p q.
         let z : from + (j - from) ≡ j = omega (arith, p) in
@@ -142,7 +142,7 @@ module _ (text t : List ℕ) (scope : Scope) (row : ℕ) (kind : Kind) (held : �
         (rw z at (grown-place t from count spot (i .name .start) row h k w (j - from) y), rw z at (grown-row t from count spot (i .name .start) row h k w (j - from) y))) in
         let old : Block text t from cs = rw a (l .block) in
         let all : Block text u from (cs ++ (d ∷ [])) = block-more (block-alike alike old) (rw (← n, grown-last t from count spot (i .name .start) row w) (new-entry text row i low small at m reads)) in
-        let tree : Linked text u from (suc count) = grows-linked g (λ p. f .hangs new p) (rw (a, n) (l .linked)) in
+        let tree : Linked text u from (suc count) = grows-linked w′ (λ p. f .hangs new p) (rw (a, n) (l .linked)) in
         let more = length-more cs d in
         let s : suc count ≡ length (cs ++ (d ∷ [])) = omega (arith, n, more) in
         record {

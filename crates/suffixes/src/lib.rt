@@ -8,7 +8,6 @@ use parts::Kind;
 use parts::Suffix;
 use parts::SuffixKind;
 ghost use mathlib.Core.Path.{_≡_};
-ghost use mathlib.Core.Bool.{_||_};
 ghost use Rattle.suffixes.specs.Suffixes.{ranged, settledFault, isSize, isRange, sizeFault, rangeFault, arrayFault, suffixRange, numberFault, suffixFault, isArray, isGiven, isBarred, instanceFault};
 
 // 9 where a number is out of its range.
@@ -145,15 +144,6 @@ fn is_given(suffix: Suffix) -> bool
     }
 }
 
-fn either(one: bool, other: bool) -> bool
-    ensures { λ r. ⌜ r ≡ (one || other) ⌝ }
-{
-    if one {
-        return true;
-    }
-    other
-}
-
 // Whether a suffix may not stand behind an instance of a field, or of another component.
 fn is_barred(kind: SuffixKind, field: bool, instance: Instance) -> bool
     ensures { λ r. ⌜ r ≡ isBarred kind field instance ⌝ }
@@ -163,8 +153,8 @@ fn is_barred(kind: SuffixKind, field: bool, instance: Instance) -> bool
     match kind {
         SuffixKind::Reset => !field,
         SuffixKind::Address => field,
-        SuffixKind::Stride => either(field, !is_array(array)),
-        SuffixKind::Alignment => either(field, is_given(address)),
+        SuffixKind::Stride => basics::either(field, !is_array(array)),
+        SuffixKind::Alignment => basics::either(field, is_given(address)),
     }
 }
 

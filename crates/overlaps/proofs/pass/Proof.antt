@@ -3,7 +3,7 @@ use borrow.Author.Needs.{needs}
 use Prim.Native.Nat.{_-_}
 use lib.ListN.{length}
 use Rattle.sizes.specs.Ready.{known}
-use Rattle.overlaps.specs.Sweeps.{spanIn}
+use Rattle.overlaps.specs.Sweeps.{stretchIn}
 use Rattle.overlaps.proofs.Plots.{order-charted, lined}
 use Rattle.overlaps.proofs.Sweeps.{Passing, passing-start, passing-skip, passing-on, passing-end, reader-stops, writer-stops}
 use Rattle.overlaps.proofs.pass.Statement.{statement}
@@ -11,7 +11,7 @@ use Rattle.overlaps.proofs.pass.Tie as tie
 
 abbrev Inv-loop : tie.InvT-loop
 Inv-loop text cells shapes log extent order limit readable₀ writable₀ i₀ readable writable i =
-    Passing (spanIn (known text cells extent) shapes log) order limit i readable writable
+    Passing (stretchIn (known text cells extent) shapes log) order limit i readable writable
 
 abbrev μ-loop : tie.MeasureT-loop
 μ-loop text cells shapes log extent order limit readable₀ writable₀ i₀ readable writable i = length order - i
@@ -28,7 +28,7 @@ pass-spec =
     (λ c. search needs)  -- add-i
     (λ c. search needs)  -- loop-less
     (λ c. search passing-skip)  -- loop-again
-    (λ c κs. (search order-charted, search needs))  -- span-at-requires
+    (λ c κs. (search order-charted, search needs))  -- stretch-at-requires
     (λ c κs. search needs)  -- reaches-requires
     (λ c κs. search needs)  -- later-of-requires
     (λ c. search (lined, reader-stops))  -- returns
@@ -43,7 +43,7 @@ pass-spec =
     let unread = unwritten .before .before in
     let spanned = unread .before .before in
     let entered = spanned .before .before .before .before in
-    passing-on _ _ _ (entered .loop .inv) (spanned .before .if1 .left) (spanned .span-at .ensures) (unread .before .reaches .ensures)
+    passing-on _ _ _ (entered .loop .inv) (spanned .before .if1 .left) (spanned .stretch-at .ensures) (unread .before .reaches .ensures)
     (unread .if2 .left) (unwritten .before .reaches2 .ensures) (unwritten .if3 .left) (c .before .side-after .ensures)
     (c .side-after2 .ensures))  -- loop-again-2
     (λ c. search (lined, passing-end)))  -- returns-3

@@ -1,11 +1,11 @@
 -- The span is that of the register's plot, with the accesses of the fields of its type.
 use borrow.Author.Needs.{needs}
 use Rattle.overlaps.proofs.Plots.{index-few, row-few, plot-low, plot-sum, span-read}
-use Rattle.overlaps.proofs.span_at.Statement.{statement}
-use Rattle.overlaps.proofs.span_at.Tie as tie
+use Rattle.overlaps.proofs.stretch_at.Statement.{statement}
+use Rattle.overlaps.proofs.stretch_at.Tie as tie
 
-pub span-at-spec : {M : Type 1} → statement M
-span-at-spec =
+pub stretch-at-spec : {M : Type 1} → statement M
+stretch-at-spec =
     tie.close
     (tie.spec
     (λ c κs. search (needs, index-few, row-few))  -- plot-at-requires
