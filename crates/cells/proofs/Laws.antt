@@ -52,6 +52,10 @@ module _ (p r l q : ℕ) (h : p < entryPlaces) (k : r < definitionLimit) where
     unfolding rightIn entryOf
     entry-right = omega arith
 
+pub place-low : (x : ℕ) → placeIn x < entryPlaces
+unfolding placeIn
+place-low x = omega arith
+
 pub row-low : (x : ℕ) → rowIn x < definitionLimit
 unfolding rowIn
 row-low x = omega arith

@@ -37,13 +37,15 @@ use Rattle.sizes.specs.declared.Extent.{Extent}
 use Rattle.sizes.specs.Ready.{known, Ready}
 use Rattle.sizes.specs.Shapes.{shapeCells, allShapes}
 use Rattle.sizes.proofs.Laws.{shapes-stored}
-use Rattle.recall.specs.Shelves.{Shelving}
+use Rattle.recall.specs.Shelves.{recallSize, Shelving}
+use Rattle.recall.specs.Kept.{keptLong}
 use Rattle.recall.proofs.Keeping.{shapes-stay}
+use Rattle.recall.proofs.Kept.{long-kept}
 use Rattle.map_rules.specs.Whole.{tooMany, tooClose, misplaced, overlapping, mapShapes, mapVisits, mapFault}
 use Rattle.map_walk.specs.declared.Counts.{Counts}
 use Rattle.map_walk.specs.declared.Surveyed.{Surveyed}
 use Rattle.map_walk.specs.declared.Surveyed.the-variants as surveyed
-use Rattle.map_walk.specs.Runs.{logSize}
+use Rattle.register_log.specs.Log.{logSize}
 use Rattle.map_walk.specs.Walks.{Shaped, elementsOf, registersOf, surveyFault, surveyOf, loggedIn}
 use Rattle.map_walk.proofs.Surveys.{FineSurvey, survey-fault, survey-fine}
 use Rattle.overlaps.specs.Charted.{Charted}
@@ -161,8 +163,11 @@ module _ (text t : List ℕ) (e : Extent) (g : FiledIn text t e) where
   is-ready = record { few = g .filed .few; holds = g .filed .holds; sensible = g .filed .sensible .table }
 
   -- the shapes in the cells, and the long instances on the shelves
-  pub shaped : {s u : List ℕ} (rest : List ℕ) → s ≡ shapeCells (allShapes text t e) ++ rest → Shelving text s u → Shaped text t u e
-  shaped rest f k = record { ready = is-ready; shapes = shapes-stay (g .filed .few) (k .stay) (shapes-stored text t e is-ready rest f); kept = k .shelved }
+  pub shaped : {s u : List ℕ} (rest : List ℕ) → s ≡ shapeCells (allShapes text t e) ++ rest → recallSize ≤ length s → u ≡ keptLong text t s e
+      → Shaped text t u e
+  shaped {s} {u} rest f l q =
+      let k : Shelving text s u = subst (Shelving text s) (sym q) (long-kept text t s e l) in
+      record { ready = is-ready; shapes = shapes-stay (g .filed .few) (k .stay) (shapes-stored text t e is-ready rest f); kept = k .shelved }
 
   mode-is : modeOf (definitionOf (known text t e) (e .map) .component) ≡ e .mode
   mode-is = sym (g .mode ∙ ap modeOf (g .filed .holds .each (e .map) map-low .component))

@@ -13,7 +13,7 @@ ghost use lib.ListN.{length};
 ghost use Rattle.basics.specs.Limits.{registerLimit, fieldLimit};
 ghost use Rattle.layout.specs.Layout.{modeOf};
 ghost use Rattle.recall.specs.Shelves.{recallSize};
-ghost use Rattle.map_walk.specs.Runs.{logSize};
+ghost use Rattle.register_log.specs.Log.{logSize};
 ghost use Rattle.map_walk.specs.Walks.{Shaped};
 ghost use Rattle.rows.specs.Rows.{tables};
 ghost use Rattle.compile.specs.Compiled.{refused, mapped, compiled, answered, lentAfter, compiledNumbers, answeredNumbers};
@@ -151,7 +151,7 @@ fn compile_map(
     ensures lent { λ _. ⌜ tables (now (registers .exit)) (now (paths .exit)) (now (fields .exit)) (now (labels .exit)) ≡ lentAfter (tables (now (registers .entry)) (now (paths .entry)) (now (fields .entry)) (now (labels .entry))) (mapped (now (text .entry)) (meaningIn (now (text .entry)) (now (cells .entry)) row closed)) ⌝ }
 {
     let mut shapes = [0u64; recall::RECALL_SIZE];
-    let mut log = [0u64; map_walk::LOG_SIZE];
+    let mut log = [0u64; register_log::LOG_SIZE];
     let mode = mode_of(cells::component_at(cells, row));
     let extent = Extent {
         rows: closed,

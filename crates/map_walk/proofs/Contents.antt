@@ -2,9 +2,9 @@
 use mathlib.Core.Path.{_≡_, refl, sym, ap, subst, _∙_}
 use mathlib.Core.Bool.{false}
 use mathlib.Core.List.{List, [], _∷_, _++_}
-use Prim.Native.Nat.{ℕ, zero, suc, _+_, _-_, _*_, _≤_, _<_}
+use Prim.Native.Nat.{ℕ, zero, suc, _+_, _-_, _≤_, _<_}
 use native.Mathlib.Omega.{arith}
-use lib.ListN.{length, length-append}
+use lib.ListN.{length, set, length-append}
 use Rattle.basics.specs.Limits.{nestLimit}
 use Rattle.basics.specs.declared.Given.{Given}
 use Rattle.fields.specs.declared.Offset.{Offset}
@@ -12,7 +12,6 @@ use Rattle.fields.specs.declared.FieldType.{FieldType}
 use Rattle.fields.specs.declared.Register.{Register}
 use Rattle.components.specs.declared.Component.{Component}
 use Rattle.components.specs.declared.Component.the-variants as component
-use Rattle.basics.specs.Slices.{written}
 use Rattle.cells.specs.Cells.{componentIn}
 use Rattle.cells.specs.Definitions.{Definition, definitionOf}
 use Rattle.layout.specs.declared.Shape.{Shape}
@@ -27,7 +26,8 @@ use Rattle.map_walk.specs.declared.Tally.{Tally}
 use Rattle.map_walk.specs.declared.Element.{Element}
 use Rattle.map_walk.specs.declared.Walked.{Walked}
 use Rattle.map_walk.specs.declared.Walked.the-variants as walked
-use Rattle.map_walk.specs.Runs.{stepOf, run, logged}
+use Rattle.register_log.specs.Log.{stepOf}
+use Rattle.map_walk.specs.Runs.{run, logged}
 use Rattle.map_walk.specs.Walks.{Shaped, SiteFits, Small, Walks, walks-on, visitOf, VisitWalks, ContentWalks, ElementWalks, ChildrenWalk}
 use Rattle.map_walk.proofs.Runs.{onto-start, onto-fault, onto-then}
 use Rattle.map_walk.proofs.Trails.{trails-more}
@@ -138,7 +138,7 @@ module _ (text t : List ℕ) (e : Extent) (levels : ℕ) (x : Element) (before :
     depth-fits : before .depth < nestLimit
     depth-fits = omega (arith, high, d)
 
-    module _ {trail : Trail} (f : (trail .depth ≡ before .depth + 1) × (trail .steps ≡ written (before .steps) (before .depth * 3) (stepOf (x .name) (x .index)))) where
+    module _ {trail : Trail} (f : (trail .depth ≡ before .depth + 1) × (trail .steps ≡ set (before .steps) (before .depth) (stepOf (x .name .start) (x .name .end) (x .index)))) where
       module _ {log after : List ℕ} {r : Walked} (w : VisitWalks text t log after e x trail start r) where
         pub element-stops : {p : ℕ} → r ≡ walked.Refused p → ElementWalks text t log after e levels x before start (walked.Refused p)
         element-stops q =

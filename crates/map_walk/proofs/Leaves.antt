@@ -1,14 +1,13 @@
 -- The functions that look at one element only.
 use mathlib.Core.Path.{_≡_, refl, sym, _∙_}
 use mathlib.Core.Bool.{Bool, true, false, _&&_}
-use mathlib.Core.List.{List, [], _∷_, map}
+use mathlib.Core.List.{List, _∷_, map}
 use Prim.Native.Nat.{ℕ, _+_, _%_, _≤_, _<_}
 use native.Mathlib.Numerals.{add-one}
 use native.Mathlib.Omega.{arith}
 use lib.Dec.{ltb}
 use lib.ListN.{length, set, getD, drop, drop-of-length-le, length-map}
 use borrow.Author.Tests.{eq-eqb, ne-eqb, lt-ltb, le-ltb}
-use Rattle.map_walk.specs.Runs.{trailWidth}
 use Rattle.chars.proofs.Laws.{drop-next}
 use Rattle.expressions.specs.declared.Number.{Number}
 use Rattle.parts.specs.declared.Instance.{Instance}
@@ -23,7 +22,7 @@ use Rattle.basics.specs.Slices.{written}
 use Rattle.capped.specs.Offsets.{cap, cut}
 use Rattle.layout.specs.declared.Shape.{Shape}
 use Rattle.layout.specs.declared.Laid.{Laid}
-use Rattle.basics.specs.Limits.{addressEnd}
+use Rattle.basics.specs.Limits.{nestLimit, addressEnd}
 use Rattle.map_rules.specs.Visits.{indexIn}
 use Rattle.map_walk.specs.declared.Tally.{Tally}
 use Rattle.map_walk.specs.declared.Element.{Element}
@@ -60,13 +59,12 @@ module _ (x : Element) (s : Shape) where
     unfolding placeFault
     place-fits h = rw (eq-eqb (x .address .0 % s .access) 0 e, le-ltb addressEnd (x .address .0 + s .size) h)
 
--- three cells, written
-pub three-written : (t : List ℕ) (i a b c : ℕ) → set (set (set t i a) (i + 1) b) (i + 2) c ≡ written t i (a ∷ b ∷ c ∷ [])
-unfolding written
-three-written t i a b c = let z : i + 1 + 1 ≡ i + 2 = omega arith in rw z
+-- a step's number, put behind the path
+pub step-put : (t : List ℕ) (i : ℕ) {a b : ℕ} → b ≡ a → set t i b ≡ set t i a
+step-put t i e = rw e
 
 -- how many cells a path has
-pub steps-length : (xs : List ℕ) → length (map (λ (v : ℕ). v) xs) ≡ trailWidth → length xs ≡ trailWidth
+pub steps-length : (xs : List ℕ) → length (map (λ (v : ℕ). v) xs) ≡ nestLimit → length xs ≡ nestLimit
 steps-length xs e = sym (length-map xs (λ v. v)) ∙ e
 
 -- a path's cells, put one after another
@@ -84,13 +82,9 @@ module _ (log : List ℕ) (at : ℕ) (xs : List ℕ) (k : ℕ) {x : List ℕ} (e
   unfolding written
   put-end h = rw (drop-of-length-le xs h) at e
 
-pub register-put : (t : List ℕ) (i a b c : ℕ) (xs : List ℕ) {t1 t2 t3 t4 : List ℕ} → t1 ≡ set t i a → t2 ≡ set t1 (i + 1) b → t3 ≡ set t2 (i + 2) c → t4 ≡ written t3 (i + 3) xs
-    → t4 ≡ written t i (a ∷ b ∷ c ∷ xs)
+pub register-put : (t : List ℕ) (i : ℕ) (xs : List ℕ) {a b : ℕ} {t1 t2 : List ℕ} → b ≡ a → t1 ≡ set t i b → t2 ≡ written t1 (i + 1) xs → t2 ≡ written t i (a ∷ xs)
 unfolding written
-register-put t i a b c xs e f g h =
-    let y : i + 1 + 1 ≡ i + 2 = omega arith in
-    let z : i + 2 + 1 ≡ i + 3 = omega arith in
-    rw (y, z, h, g, f, e)
+register-put t i xs e f g = rw (← e, g, f)
 
 -- `visit_group`
 pub group-visited : (t : Tally) (x : Element) {f g : Fault} → g ≡ closeFault x → f ≡ firstOf (t .close) g

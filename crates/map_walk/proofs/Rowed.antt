@@ -17,6 +17,7 @@ use Rattle.basics.specs.Slices.{written}
 use Rattle.cells.specs.Cells.{entriesAt, componentIn, firstIn, countIn, instanceRoom}
 use Rattle.cells.specs.Definitions.{Child, definitionOf}
 use Rattle.definition_laws.specs.Sensible.{ValuesFit, register-fits}
+use Rattle.register_log.specs.Log.{logWidth, headOf}
 use Rattle.capped.specs.Offsets.{cap}
 use Rattle.capped.proofs.Laws.{cut-low}
 use Rattle.layout.specs.declared.Shape.{Shape}
@@ -34,7 +35,7 @@ use Rattle.map_walk.specs.declared.Tally.{Tally}
 use Rattle.map_walk.specs.declared.Element.{Element}
 use Rattle.map_walk.specs.declared.Walked.{Walked}
 use Rattle.map_walk.specs.declared.Walked.the-variants as walked
-use Rattle.map_walk.specs.Runs.{logWidth, logRow}
+use Rattle.map_walk.specs.Runs.{logRow}
 use Rattle.map_walk.specs.Walks.{Shaped, Small, IsRegisterOf, of-register, IsRegisterRow, closeFault, placeFault, GroupVisited, visitOf, VisitWalks}
 use Rattle.map_walk.proofs.Visited.{close-same, place-same, group-on, register-many, register-fields, register-on}
 
@@ -111,7 +112,7 @@ module _ (text t s : List ℕ) (e : Extent) (x : Element) (tally : Tally) (sh : 
           )
 
       pub register-walked : {log after : List ℕ} {trail : Trail} {close place f g : Fault} → trail .depth ≤ nestLimit → tally .registers < registerLimit → tally .fields + (to - from) ≤ fieldLimit
-          → after ≡ written log (tally .registers * logWidth) (x .address .0 ∷ x .row ∷ trail .depth ∷ trail .steps) → close ≡ closeFault x → f ≡ firstOf (tally .close) close
+          → after ≡ written log (tally .registers * logWidth) (headOf (x .address .0) (x .row) (trail .depth) ∷ trail .steps) → close ≡ closeFault x → f ≡ firstOf (tally .close) close
           → place ≡ placeFault x shape → g ≡ firstOf (tally .misplaced) place
           → VisitWalks text t log after e x trail tally (walked.Done (record { registers = tally .registers + 1; fields = tally .fields + (to - from); close = f; misplaced = g }))
       unfolding logRow

@@ -24,7 +24,8 @@ use Rattle.map_walk.specs.declared.Walked.{Walked}
 use Rattle.map_walk.specs.declared.Walked.the-variants as walked
 use Rattle.map_walk.specs.declared.Surveyed.the-variants as surveyed
 use Rattle.rows.specs.Rows.{padded}
-use Rattle.map_walk.specs.Runs.{trailWidth, nothingTallied, logSize}
+use Rattle.register_log.specs.Log.{logSize}
+use Rattle.map_walk.specs.Runs.{nothingTallied}
 use Rattle.map_walk.specs.Walks.{Small, ContentWalks, MapWalks, Logs, elementsOf, registersOf, surveyFault, surveyAnswer, surveyOf, loggedIn}
 use Rattle.map_walk.proofs.Runs.{run-small, walked-on, walked-fault}
 use Rattle.map_walk.proofs.Trails.{trails-none}
@@ -39,7 +40,7 @@ answer-to : (text t : List ℕ) (e : Extent) (row : ℕ) {f : Fault} → surveyF
 answer-to text t e row q = ap (λ (f : Fault). surveyAnswer f (length (registersOf text t e row)) (fieldsAmong (known text t e) (elementsOf text t e row))) (sym q)
 
 module _ (text t before : List ℕ) (e : Extent) (row : ℕ) {after : List ℕ} {r : Walked} where
-  pub map-walked : ContentWalks text t before after e (suc nestLimit) row (record { 0 = 0 }) (record { depth = 0; steps = replicate trailWidth 0 }) nothingTallied r → MapWalks text t before after e row r
+  pub map-walked : ContentWalks text t before after e (suc nestLimit) row (record { 0 = 0 }) (record { depth = 0; steps = replicate nestLimit 0 }) nothingTallied r → MapWalks text t before after e row r
   unfolding padded
   map-walked w = record { walks = w .each [] bottom (trails-none refl refl) (ap (λ (n : ℕ). record { 0 = n }) (sym (cut-low 0 (omega arith)))) }
 

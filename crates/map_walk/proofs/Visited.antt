@@ -15,6 +15,7 @@ use Rattle.basics.specs.declared.Given.{Given}
 use Rattle.fields.specs.declared.Offset.{Offset}
 use Rattle.basics.specs.Slices.{written}
 use Rattle.cells.specs.Definitions.{Definition, definitionOf}
+use Rattle.register_log.specs.Log.{logWidth}
 use Rattle.capped.specs.Offsets.{cap, cut}
 use Rattle.capped.proofs.Laws.{cut-low, cut-high}
 use Rattle.layout.specs.declared.Shape.{Shape}
@@ -26,7 +27,7 @@ use Rattle.map_walk.specs.declared.Tally.{Tally}
 use Rattle.map_walk.specs.declared.Element.{Element}
 use Rattle.map_walk.specs.declared.Walked.{Walked}
 use Rattle.map_walk.specs.declared.Walked.the-variants as walked
-use Rattle.map_walk.specs.Runs.{isTooMany, tallied, run, logWidth, logRow, loggedOne, logged}
+use Rattle.map_walk.specs.Runs.{isTooMany, tallied, run, logRow, loggedOne, logged}
 use Rattle.map_walk.specs.Walks.{Small, Walks, walks-fault, walks-on, closeFault, placeFault, visitOf}
 use Rattle.map_walk.proofs.Runs.{logged-step}
 

@@ -14,13 +14,14 @@ use Rattle.basics.specs.declared.Fault.the-variants.{None, Refused}
 use Rattle.basics.specs.Slices.{cellOf, written}
 use Rattle.cells.specs.Definitions.{Definition, definitionOf}
 use Rattle.cells.proofs.Laws.{written-length, written-other, written-same}
+use Rattle.register_log.specs.Log.{logWidth}
 use Rattle.layout.specs.declared.Shape.{Shape}
 use Rattle.layout.specs.Layout.{shapeAt}
-use Rattle.basics.specs.Limits.{addressEnd}
+use Rattle.basics.specs.Limits.{nestLimit, addressEnd}
 use Rattle.map_rules.specs.Visits.{Visit}
 use Rattle.map_rules.specs.Whole.{isRegisterVisit, offence, tooMany, tooClose, misplaced}
 use Rattle.map_walk.specs.declared.Tally.{Tally}
-use Rattle.map_walk.specs.Runs.{trailWidth, nothingTallied, registersWith, fieldsWith, isTooMany, tallied, run, stepCells, logWidth, logRow, loggedOne, logged}
+use Rattle.map_walk.specs.Runs.{nothingTallied, registersWith, fieldsWith, isTooMany, tallied, run, stepCells, logRow, loggedOne, logged}
 use Rattle.map_rules.specs.Whole.{registersAmong, fieldsAmong}
 use Rattle.map_walk.specs.Walks.{LogRow, visitAt, Logs}
 use Rattle.map_walk.proofs.Runs.{run-step, run-none, logged-step}
@@ -103,7 +104,7 @@ run-sums table shapes t (v ∷ vs) e =
 -- the log
 row-length : (v : Visit) → length (logRow v) ≡ logWidth
 unfolding logRow
-row-length v = omega (arith, length-padded trailWidth (stepCells (v .path)))
+row-length v = omega (arith, length-padded nestLimit (stepCells (v .path)))
 
 -- how many registers there are with an element
 counted : (table : List Definition) (shapes : List Shape) (t : Tally) (v : Visit) {b : Bool} → isRegisterVisit table v ≡ b → tallied table shapes t v .registers ≡ (if b then suc (t .registers) else t .registers)
@@ -132,22 +133,18 @@ unfolding logRow
 row-written log n v h =
     let m : n * logWidth + length (logRow v) ≤ length log = omega (arith, row-length v) in
     record {
-      address = let z : n * logWidth + 0 ≡ n * logWidth = omega arith in rw z at (written-same log (n * logWidth) (logRow v) 0 m (omega (arith, row-length v)));
-      type = written-same log (n * logWidth) (logRow v) 1 m (omega (arith, row-length v));
-      depth = written-same log (n * logWidth) (logRow v) 2 m (omega (arith, row-length v));
+      head = let z : n * logWidth + 0 ≡ n * logWidth = omega arith in rw z at (written-same log (n * logWidth) (logRow v) 0 m (omega (arith, row-length v)));
       steps = λ k l.
-          let z : n * logWidth + 3 + k ≡ n * logWidth + suc (suc (suc k)) = omega arith in
-          rw z (written-same log (n * logWidth) (logRow v) (suc (suc (suc k))) m (omega (arith, row-length v)));
+          let z : n * logWidth + 1 + k ≡ n * logWidth + suc k = omega arith in
+          rw z (written-same log (n * logWidth) (logRow v) (suc k) m (omega (arith, row-length v)));
     }
 
 row-kept : (table : List Definition) (shapes : List Shape) (log : List ℕ) (t : Tally) (i : ℕ) (vs : List Visit) {v : Visit} → i < t .registers → LogRow log i v
     → LogRow (logged table shapes log t vs) i v
 row-kept table shapes log t i vs h r =
     record {
-      address = logged-below table shapes log t vs (i * logWidth) (omega (arith, h)) ∙ r .address;
-      type = logged-below table shapes log t vs (i * logWidth + 1) (omega (arith, h)) ∙ r .type;
-      depth = logged-below table shapes log t vs (i * logWidth + 2) (omega (arith, h)) ∙ r .depth;
-      steps = λ k l. logged-below table shapes log t vs (i * logWidth + 3 + k) (omega (arith, h, l)) ∙ r .steps k l;
+      head = logged-below table shapes log t vs (i * logWidth) (omega (arith, h)) ∙ r .head;
+      steps = λ k l. logged-below table shapes log t vs (i * logWidth + 1 + k) (omega (arith, h, l)) ∙ r .steps k l;
     }
 
 -- the registers of a run that is fine, one a row

@@ -1,15 +1,15 @@
 -- One run over a map's elements, as the code makes it: 18 ends it, the first 19 and the first 20 are kept, and registers are logged.
 use mathlib.Core.Bool.{Bool, _||_}
-use mathlib.Core.List.{List, [], _∷_, _++_}
+use mathlib.Core.List.{List, [], _∷_}
 use Prim.Native.Nat.{ℕ, suc, _+_, _*_}
 use lib.Dec.{ltb}
 use lib.ListN.{length}
 use Rattle.basics.specs.Choice.{if_then_else_}
-use Rattle.parts.specs.declared.Name.{Name}
 use Rattle.basics.specs.Judged.{firstOf, Judged, fine, unless}
 use Rattle.basics.specs.declared.Fault.the-variants.{None}
 use Rattle.basics.specs.Slices.{written}
 use Rattle.cells.specs.Definitions.{Definition, definitionOf}
+use Rattle.register_log.specs.Log.{logWidth, headOf, stepOf}
 use Rattle.capped.specs.Offsets.{cut}
 use Rattle.layout.specs.declared.Shape.{Shape}
 use Rattle.basics.specs.Limits.{nestLimit, registerLimit, fieldLimit}
@@ -48,28 +48,17 @@ unfoldable pub run : List Definition → List Shape → Tally → List Visit →
 run table shapes t [] = fine t
 run table shapes t (v ∷ vs) = unless (isTooMany table t v) 18 (v .name .start) (run table shapes (tallied table shapes t v) vs)
 
--- a path in cells: three for each step, its name's start and end, and its index and one more, or 0
-abbrev pub stepOf : Name → ℕ → List ℕ
-stepOf name index = name .start ∷ name .end ∷ index ∷ []
+-- a path in the log: a number for each step
+abbrev pub stepNumber : PathStep → ℕ
+stepNumber s = stepOf (s .name .start) (s .name .end) (indexCode (s .index))
 
 unfoldable pub stepCells : List PathStep → List ℕ
 stepCells [] = []
-stepCells (s ∷ path) = stepOf (s .name) (indexCode (s .index)) ++ stepCells path
+stepCells (s ∷ path) = stepNumber s ∷ stepCells path
 
--- the cells of a path, which has at most 8 steps; and of a register in the log, which has three more
-abbrev pub trailWidth : ℕ
-trailWidth = 24
-
-abbrev pub logWidth : ℕ
-logWidth = 27
-
--- and of a log that holds as many registers as a map may have
-abbrev pub logSize : ℕ
-logSize = registerLimit * logWidth
-
--- a register in the log: its address, cut at the cap, its type, the length of its path, and its path
+-- a register in the log: its head, with its address cut at the cap, its type and the length of its path; and its path, at most 8 steps
 unfoldable pub logRow : Visit → List ℕ
-logRow v = cut (v .address .0) ∷ v .type ∷ length (v .path) ∷ padded trailWidth (stepCells (v .path))
+logRow v = headOf (cut (v .address .0)) (v .type) (length (v .path)) ∷ padded nestLimit (stepCells (v .path))
 
 -- the log with an element: a register is written into the row of its number
 abbrev pub loggedOne : List Definition → List ℕ → Tally → Visit → List ℕ

@@ -17,6 +17,7 @@ use Rattle.components.specs.declared.Component.{Component}
 use Rattle.components.specs.declared.Component.the-variants as component
 use Rattle.fields.specs.declared.Register.{Register}
 use Rattle.basics.specs.Slices.{cellOf}
+use Rattle.register_log.specs.Log.{logWidth, headOf}
 use Rattle.cells.specs.Cells.{componentIn}
 use Rattle.cells.specs.Definitions.{Child, Definition, definitionOf}
 use Rattle.capped.specs.Offsets.{cap, cut, factorBound}
@@ -40,7 +41,7 @@ use Rattle.map_walk.specs.declared.Surveyed.the-variants as surveyed
 use Rattle.map_walk.specs.declared.Walked.{Walked}
 use Rattle.map_walk.specs.declared.Walked.the-variants as walked
 use Rattle.rows.specs.Rows.{padded, indexCode}
-use Rattle.map_walk.specs.Runs.{nothingTallied, stepCells, trailWidth, logWidth, run, logged}
+use Rattle.map_walk.specs.Runs.{nothingTallied, stepCells, run, logged}
 
 -- cells that hold definitions, with their shapes, and with long instances on the shelves
 pub record Shaped (text t s : List ℕ) (e : Extent) : Type 0 where
@@ -62,7 +63,7 @@ pub record Small (t : Tally) : Type 0 where
 -- a trail holds a path
 pub record Trails (trail : Trail) (path : List PathStep) : Type 0 where
   pub depth : trail .depth ≡ length path
-  pub steps : trail .steps ≡ padded trailWidth (stepCells path)
+  pub steps : trail .steps ≡ padded nestLimit (stepCells path)
 
 -- the log and the answer after these elements: 18 at one of them, or the counts
 pub data Walks (table : List Definition) (shapes : List Shape) (before after : List ℕ) (t : Tally) (vs : List Visit) : Walked → Type 0 where
@@ -160,10 +161,8 @@ pub record MapWalks (text t before after : List ℕ) (e : Extent) (row : ℕ) (r
 
 -- a register in a row of the log
 pub record LogRow (log : List ℕ) (i : ℕ) (v : Visit) : Type 0 where
-  pub address : cellOf log (i * logWidth) ≡ cut (v .address .0)
-  pub type : cellOf log (i * logWidth + 1) ≡ v .type
-  pub depth : cellOf log (i * logWidth + 2) ≡ length (v .path)
-  pub steps : (k : ℕ) → k < trailWidth → cellOf log (i * logWidth + 3 + k) ≡ cellOf (padded trailWidth (stepCells (v .path))) k
+  pub head : cellOf log (i * logWidth) ≡ headOf (cut (v .address .0)) (v .type) (length (v .path))
+  pub steps : (k : ℕ) → k < nestLimit → cellOf log (i * logWidth + 1 + k) ≡ cellOf (padded nestLimit (stepCells (v .path))) k
 
 abbrev pub noVisit : Visit
 noVisit = record { path = []; name = record { start = 0; end = 0 }; type = 0; address = bottom; short = false }

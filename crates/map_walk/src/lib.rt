@@ -13,27 +13,20 @@ use sizes::Extent;
 ghost use mathlib.Core.Path.{_≡_};
 ghost use mathlib.Core.List.{_∷_};
 ghost use Prim.Native.Nat.{_+_, _-_, _*_, _<_, _≤_};
+ghost use lib.ListN.{set};
 ghost use Rattle.basics.specs.Slices.{written};
+ghost use Rattle.register_log.specs.Log.{logWidth, headOf, stepOf};
 ghost use Rattle.capped.specs.Offsets.{cap};
 ghost use Rattle.sizes.specs.Shapes.{GroupRow};
 ghost use Rattle.map_rules.specs.Visits.{indexIn};
-ghost use Rattle.basics.specs.Limits.{nestLimit, registerLimit, indexBound, sumBound};
+ghost use Rattle.basics.specs.Limits.{nestLimit, registerLimit, definitionLimit, indexBound, sumBound};
 ghost use Rattle.rows.specs.Rows.{indexCode};
-ghost use Rattle.map_walk.specs.Runs.{stepOf, logWidth};
 ghost use Rattle.map_walk.specs.Walks.{Shaped, SiteFits, Small, IsRegisterRow, closeFault, placeFault, GroupVisited, KidMade, MapWalks, surveyOf, loggedIn, VisitWalks, ContentWalks, ElementWalks, KidFits, ArrayWalks, ChildrenWalk};
 
-// The numbers of a path's steps, and those of a register in the log: its address, its type's row, how many steps there are, and these.
-const TRAIL_WIDTH: usize = basics::NEST_LIMIT * 3;
-
-pub const LOG_WIDTH: usize = 3 + TRAIL_WIDTH;
-
-// Those of a log that holds as many registers as a map may have.
-pub const LOG_SIZE: usize = basics::REGISTER_LIMIT * LOG_WIDTH;
-
-// A path: for each step its name's start and end, and its index and one more, or 0.
+// A path: a number of the log for each step.
 pub struct Trail {
     pub depth: usize,
-    pub steps: [u64; TRAIL_WIDTH],
+    pub steps: [u64; basics::NEST_LIMIT],
 }
 
 // How many registers and fields there are, and the first faults by 19 and 20.
@@ -103,15 +96,13 @@ fn index_of(array: Array, k: u64) -> u64
 // A path with one more step.
 fn deeper(trail: Trail, name: Name, index: u64) -> Trail
     requires { ⌜ trail .depth < nestLimit ⌝ }
-    ensures { λ r. ⌜ (r .depth ≡ trail .depth + 1) × (r .steps ≡ written (trail .steps) (trail .depth * 3) (stepOf name index)) ⌝ }
+    ensures { λ r. ⌜ (r .depth ≡ trail .depth + 1) × (r .steps ≡ set (trail .steps) (trail .depth) (stepOf (name .start) (name .end) index)) ⌝ }
 {
     let mut steps = trail.steps;
-    let at = trail.depth * 3;
-    steps[at] = name.start as u64;
-    steps[at + 1] = name.end as u64;
-    steps[at + 2] = index;
+    let depth = trail.depth;
+    steps[depth] = register_log::step_of(name.start, name.end, index);
     Trail {
-        depth: trail.depth + 1,
+        depth: depth + 1,
         steps,
     }
 }
@@ -148,7 +139,7 @@ fn log_trail(log: &mut [u64], at: usize, trail: Trail)
     ensures { λ _. ⌜ now (log .exit) ≡ written (now (log .entry)) at (trail .steps) ⌝ }
 {
     let mut k = 0;
-    while k < TRAIL_WIDTH {
+    while k < basics::NEST_LIMIT {
         basics::put(log, at + k, trail.steps[k]);
         k += 1;
     }
@@ -156,14 +147,13 @@ fn log_trail(log: &mut [u64], at: usize, trail: Trail)
 
 // Writes a register into a row of the log.
 fn log_register(log: &mut [u64], number: usize, element: Element, trail: Trail)
-    requires { ⌜ number ≤ registerLimit ⌝ }
-    ensures { λ _. ⌜ now (log .exit) ≡ written (now (log .entry)) (number * logWidth) (element .address .0 ∷ element .row ∷ trail .depth ∷ trail .steps) ⌝ }
+    requires { ⌜ (number ≤ registerLimit) × (element .address .0 ≤ cap) × (element .row < definitionLimit) × (trail .depth ≤ nestLimit) ⌝ }
+    ensures { λ _. ⌜ now (log .exit) ≡ written (now (log .entry)) (number * logWidth) (headOf (element .address .0) (element .row) (trail .depth) ∷ trail .steps) ⌝ }
 {
-    let at = number * LOG_WIDTH;
-    basics::put(log, at, element.address.0);
-    basics::put(log, at + 1, element.row as u64);
-    basics::put(log, at + 2, trail.depth as u64);
-    log_trail(log, at + 3, trail);
+    let at = number * register_log::LOG_WIDTH;
+    let head = register_log::head_of(element.address.0, element.row, trail.depth);
+    basics::put(log, at, head);
+    log_trail(log, at + 1, trail);
 }
 
 // A register: 18 where there are too many registers or fields.
@@ -440,7 +430,7 @@ fn walk_map(text: &[u8], cells: &[u64], shapes: &[u64], log: &mut [u64], extent:
 {
     let trail = Trail {
         depth: 0,
-        steps: [0; TRAIL_WIDTH],
+        steps: [0; basics::NEST_LIMIT],
     };
     let start = Tally {
         registers: 0,

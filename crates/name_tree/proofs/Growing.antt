@@ -10,15 +10,11 @@ use lib.Seq.{getD-set-same, getD-set-other}
 use borrow.Author.Tests.{ltb-true, ltb-false, lt-ltb, eqb-true, eqb-false}
 use Rattle.basics.specs.Choice.{if_then_else_}
 use Rattle.basics.specs.Slices.{cellOf}
-use Rattle.cells.specs.Cells.{entryPlaces, linkBound, entryOf, placeIn, rowIn, leftIn, rightIn}
-use Rattle.cells.proofs.Laws.{entry-place, entry-row, entry-left, entry-right, row-low}
+use Rattle.cells.specs.Cells.{linkBound, entryOf, placeIn, rowIn, leftIn, rightIn}
+use Rattle.cells.proofs.Laws.{entry-place, entry-row, entry-left, entry-right, place-low, row-low}
 use Rattle.name_tree.specs.declared.Spot.{Spot}
 use Rattle.name_tree.specs.Tree.{goesRight, isEntryNamed, linkIn, below, Meets, meets-here, meets-below, Linked, Leads, leads-root, leads-below, Hangs, withLink, linked, grown}
 use Rattle.name_tree.proofs.Laws.{below-at, below-some}
-
-place-low : (x : ℕ) → placeIn x < entryPlaces
-unfolding placeIn
-place-low x = omega arith
 
 left-low : (x : ℕ) → leftIn x < linkBound
 unfolding leftIn

@@ -2,4 +2,3 @@ pub mod Laws
 pub mod Finding
 pub mod Names
 pub mod Growing
-pub mod InstanceName

@@ -27,10 +27,13 @@ use Rattle.sizes.specs.Ready.{known}
 use Rattle.sizes.specs.Shapes.{shapeIn, allShapes}
 use Rattle.map_rules.specs.Visits.{Visit}
 use Rattle.map_rules.specs.Whole.{hasAccess, isPair, isSharedLawfully, overlapRegisters, overlapping}
-use Rattle.map_walk.specs.Runs.{trailWidth, stepCells, logWidth}
+use Rattle.register_log.specs.Log.{logWidth, addressBound, depthBound, placeBound, headAddress, headRow, headDepth, stepStart}
+use Rattle.register_log.proofs.Laws.{head-address, head-row, head-depth}
+use Rattle.capped.specs.Offsets.{cut}
+use Rattle.map_walk.specs.Runs.{stepCells}
 use Rattle.map_walk.specs.Walks.{LogRow, visitAt, noVisit, elementsOf, registersOf}
 use Rattle.overlaps.specs.declared.Plot.{Plot}
-use Rattle.overlaps.specs.Charted.{Charted, plotIn}
+use Rattle.overlaps.specs.Charted.{Charted, plotIn, lastPlace}
 use Rattle.overlaps.specs.Sweeps.{registerCount, startIn, stretchIn, clash, clashIn, LowStarts, Sweepable}
 use Rattle.basics.proofs.All.{all-at}
 use Rattle.overlaps.proofs.Access.{register-once}
@@ -42,13 +45,17 @@ use Rattle.overlaps.proofs.Sweeps.{Lined}
 same-plot : {a b c x y z : ℕ} → a ≡ x → b ≡ y → c ≡ z → _≡_ {A = Plot} (record { row = a; address = record { 0 = b }; size = c }) (record { row = x; address = record { 0 = y }; size = z })
 same-plot p q r = rw (p, q, r)
 
-pub plot-read : (s log : List ℕ) (i : ℕ) {address row : ℕ} {shape : Shape} → address ≡ cellOf log (i * logWidth) → row ≡ cellOf log (i * logWidth + 1) → shape ≡ shapeIn s row
-    → record { row = row; address = record { 0 = address }; size = shape .size } ≡ plotIn s log i
+pub plot-read : (s log : List ℕ) (i : ℕ) {head address row : ℕ} {shape : Shape} → head ≡ cellOf log (i * logWidth) → address ≡ headAddress head → (row ≡ headRow head) × (row < definitionLimit)
+    → shape ≡ shapeIn s row → record { row = row; address = record { 0 = address }; size = shape .size } ≡ plotIn s log i
 unfolding plotIn
-plot-read s log i p q g = same-plot q p (ap (λ (z : Shape). z .size) g ∙ ap (λ (n : ℕ). shapeIn s n .size) q)
+plot-read s log i p q r g =
+    let w : _ ≡ headRow (cellOf log (i * logWidth)) = r .0 ∙ ap headRow p in
+    same-plot w (q ∙ ap headAddress p) (ap (λ (z : Shape). z .size) g ∙ ap (λ (n : ℕ). shapeIn s n .size) w)
 
-pub place-read : (log : List ℕ) (i : ℕ) {depth x : ℕ} → depth ≡ cellOf log (i * logWidth + 2) → x ≡ cellOf log (i * logWidth + 3 * depth) → x ≡ cellOf log (i * logWidth + 3 * cellOf log (i * logWidth + 2))
-place-read log i p q = q ∙ ap (λ (n : ℕ). cellOf log (i * logWidth + 3 * n)) p
+pub place-read : (log : List ℕ) (i : ℕ) {head depth step place : ℕ} → head ≡ cellOf log (i * logWidth) → (depth ≡ headDepth head) × (depth < depthBound)
+    → step ≡ cellOf log (i * logWidth + depth) → (place ≡ stepStart step) × (place < placeBound) → place ≡ lastPlace log i
+unfolding lastPlace
+place-read log i p q r g = g .0 ∙ ap stepStart (r ∙ ap (λ (n : ℕ). cellOf log (i * logWidth + n)) (q .0 ∙ ap headDepth p))
 
 pub span-read : (table : List Definition) (s log : List ℕ) (i : ℕ) {p : Plot} {wa ra : ℕ} {w r : Bool} → p ≡ plotIn s log i
     → wa ≡ accessCode access.W → w ≡ hasAccess table wa (p .row) → ra ≡ accessCode access.R → r ≡ hasAccess table ra (p .row)
@@ -89,21 +96,34 @@ module _ (text t s log : List ℕ) (e : Extent) (row : ℕ) (c : Charted text t 
   pub index-few : i ≤ registerLimit
   index-few = omega (arith, h, c .few)
 
-  pub row-few : cellOf log (i * logWidth + 1) < definitionLimit
-  row-few = omega (arith, log-at .type, type-low, c .shaped .ready .few)
+  -- what its head holds
+  row-few : visitAt (registersOf text t e row) i .type < definitionLimit
+  row-few = omega (arith, type-low, c .shaped .ready .few)
 
-  pub depth-few : cellOf log (i * logWidth + 2) ≤ nestLimit
-  depth-few = omega (arith, log-at .depth, seen-at .shallow)
+  address-few : cut (visitAt (registersOf text t e row) i .address .0) < addressBound
+  address-few = omega (arith, seen-at .exact, seen-at .sited .within)
+
+  depth-few : length (visitAt (registersOf text t e row) i .path) < depthBound
+  depth-few = omega (arith, seen-at .shallow)
+
+  pub logged-address : headAddress (cellOf log (i * logWidth)) ≡ visitAt (registersOf text t e row) i .address .0
+  logged-address = ap headAddress (log-at .head) ∙ head-address (cut (visit .address .0)) (visit .type) (length (visit .path)) address-few row-few depth-few ∙ seen-at .exact
+
+  pub logged-row : headRow (cellOf log (i * logWidth)) ≡ visitAt (registersOf text t e row) i .type
+  logged-row = ap headRow (log-at .head) ∙ head-row (cut (visit .address .0)) (visit .type) (length (visit .path)) address-few row-few depth-few
+
+  pub logged-depth : headDepth (cellOf log (i * logWidth)) ≡ length (visitAt (registersOf text t e row) i .path)
+  logged-depth = ap headDepth (log-at .head) ∙ head-depth (cut (visit .address .0)) (visit .type) (length (visit .path)) address-few row-few depth-few
 
   plot-of : PlotOf (allShapes text t e) (visitAt (registersOf text t e row) i) (plotIn s log i)
   unfolding plotIn
   plot-of =
       let shape : Shape = shapeAt (allShapes text t e) (visit .type) in
       record {
-        row = log-at .type;
-        address = ap (λ (n : ℕ). record { 0 = n }) (log-at .address ∙ seen-at .exact);
+        row = logged-row;
+        address = ap (λ (n : ℕ). record { 0 = n }) logged-address;
         size =
-            ap (λ (n : ℕ). shapeIn s n .size) (log-at .type) ∙ ap (λ (z : Shape). z .size) (c .shaped .shapes .each (visit .type) type-low)
+            ap (λ (n : ℕ). shapeIn s n .size) logged-row ∙ ap (λ (z : Shape). z .size) (c .shaped .shapes .each (visit .type) type-low)
             ∙ ap (λ (z : Shape). z .size) (register-whole text t e (visit .type) (seen-at .type));
       }
 
@@ -124,21 +144,22 @@ module _ (text t s log : List ℕ) (e : Extent) (row : ℕ) (c : Charted text t 
   span-full = omega (arith, plot-of .size, register-size text t e (visit .type) (seen-at .type))
 
   start-low : startIn log i ≤ addressEnd
-  start-low = omega (arith, log-at .address, seen-at .exact, seen-at .sited .within)
+  start-low = omega (arith, logged-address, seen-at .sited .within)
 
   -- it is not both read-only and write-only
   once : (readOnly (known text t e) (visit .type) && writeOnly (known text t e) (visit .type)) ≡ false
   once = register-once text t e (visit .type) (c .shaped .ready) type-low (seen-at .type .known-as)
 
   -- its name's place is that of its path's last step
-  pub named-at : cellOf log (i * logWidth + 3 * cellOf log (i * logWidth + 2)) ≡ visitAt (registersOf text t e row) i .name .start
+  pub named-at : lastPlace log i ≡ visitAt (registersOf text t e row) i .name .start
+  unfolding lastPlace
   named-at =
       let n : ℕ = length (visit .path) in
       let l = seen-length text t e 0 visit (seen-at .seen) in
-      let z : i * logWidth + 3 * n ≡ i * logWidth + 3 + 3 * (n - 1) = omega (arith, l) in
-      let k : 3 * (n - 1) < trailWidth = omega (arith, l, seen-at .shallow) in
-      ap (λ (m : ℕ). cellOf log (i * logWidth + 3 * m)) (log-at .depth) ∙ ap (cellOf log) z ∙ log-at .steps (3 * (n - 1)) k
-      ∙ padded-cell trailWidth (stepCells (visit .path)) (3 * (n - 1)) k ∙ seen-place text t e 0 visit (seen-at .seen)
+      let z : i * logWidth + n ≡ i * logWidth + 1 + (n - 1) = omega (arith, l) in
+      let k : n - 1 < nestLimit = omega (arith, l, seen-at .shallow) in
+      ap (λ (m : ℕ). stepStart (cellOf log (i * logWidth + m))) logged-depth ∙ ap (λ (m : ℕ). stepStart (cellOf log m)) z
+      ∙ ap stepStart (log-at .steps (n - 1) k ∙ padded-cell nestLimit (stepCells (visit .path)) (n - 1) k) ∙ seen-place text t e 0 visit (seen-at .seen)
 
 -- ---- the spans of two registers clash where the registers overlap
 
@@ -213,11 +234,7 @@ module _ (text t s log : List ℕ) (e : Extent) (c : Charted text t s log e (e .
         pub found-few : first ≤ registerLimit
         found-few = index-few text t s log e (e .map) c first found-low
 
-        pub found-depth : cellOf log (first * logWidth + 2) ≤ nestLimit
-        found-depth = depth-few text t s log e (e .map) c first found-low
-
-        pub found-some : {place : ℕ} → place ≡ cellOf log (first * logWidth + 3 * cellOf log (first * logWidth + 2))
-            → Refused 21 place ≡ fault
+        pub found-some : {place : ℕ} → place ≡ lastPlace log first → Refused 21 place ≡ fault
         found-some p =
             ap (Refused 21) (p ∙ named-at text t s log e (e .map) c first found-low)
             ∙ sym (found-fault .refused found-low)
@@ -231,9 +248,10 @@ pub record Filling (log : List ℕ) (i : ℕ) (xs : List ℕ) : Type 0 where
 pub filling-start : (log xs : List ℕ) → Filling log 0 xs
 filling-start log xs = record { each = λ j h. absurd (omega arith) }
 
-pub filling-on : (log : List ℕ) {i : ℕ} {xs : List ℕ} {x : ℕ} → Filling log i xs → i < length xs → x ≡ startIn log i
+pub filling-on : (log : List ℕ) {i : ℕ} {xs : List ℕ} {head x : ℕ} → Filling log i xs → i < length xs → head ≡ cellOf log (i * logWidth) → x ≡ headAddress head
     → Filling log (i + 1) (set xs i (x * registerLimit + i))
-filling-on log {i} {xs} {x} f h e =
+filling-on log {i} {xs} {head} {x} f h d g =
+    let e : x ≡ startIn log i = g ∙ ap headAddress d in
     record {
       each = λ j l.
           elim (decLt j i) [
@@ -247,12 +265,15 @@ pub filling-end : (log : List ℕ) {i : ℕ} {xs : List ℕ} {n : ℕ} → Filli
 filling-end log f h e l = record { room = omega arith; each = λ j o. f .each j (omega arith) }
 
 -- a key fits its cell
-module _ (log : List ℕ) {i m n x : ℕ} (f : LowStarts log n) (k : m ≡ n) (h : i < m) (l : n ≤ registerLimit) (e : x ≡ startIn log i) where
+module _ (log : List ℕ) {i m n head x : ℕ} (f : LowStarts log n) (k : m ≡ n) (h : i < m) (l : n ≤ registerLimit) (d : head ≡ cellOf log (i * logWidth)) (g : x ≡ headAddress head) where
+  start : x ≡ startIn log i
+  start = g ∙ ap headAddress d
+
   pub product-fits : x * registerLimit < 2 ^ 64
-  product-fits = omega (arith, f .each i (omega arith))
+  product-fits = omega (arith, start, f .each i (omega arith))
 
   pub key-fits : x * registerLimit + i < 2 ^ 64
-  key-fits = omega (arith, f .each i (omega arith))
+  key-fits = omega (arith, start, f .each i (omega arith))
 
 module _ (text t s log : List ℕ) (e : Extent) where
   pub low-starts : {n : ℕ} → Charted text t s log e (e .map) → n ≡ registerCount text t e → LowStarts log n

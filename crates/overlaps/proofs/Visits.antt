@@ -3,7 +3,7 @@
 use mathlib.Core.Bool.{Bool, true, false, _||_, _&&_, not}
 use mathlib.Core.Path.{_≡_, refl, ap, _∙_}
 use mathlib.Core.List.{List, [], _∷_}
-use Prim.Native.Nat.{ℕ, zero, suc, _+_, _-_, _*_, _/_, _%_, _<_, _≤_}
+use Prim.Native.Nat.{ℕ, zero, suc, _+_, _-_, _/_, _%_, _<_, _≤_}
 use native.Mathlib.Omega.{arith}
 use lib.Dec.{eqb, ltb}
 use lib.ListN.{length, getD}
@@ -13,6 +13,7 @@ use Rattle.chars.proofs.Laws.{either, or-left, or-right}
 use Rattle.parts.specs.declared.Name.{Name}
 use Rattle.parts.specs.declared.Array.{Array}
 use Rattle.parts.specs.declared.Array.the-variants as array
+use Rattle.parts.proofs.InstanceName.{instance-short}
 use Rattle.fields.specs.Codes.{isWidth}
 use Rattle.basics.specs.Judged.{firstOf}
 use Rattle.basics.specs.declared.Fault.the-variants.{None}
@@ -21,9 +22,13 @@ use Rattle.basics.specs.declared.Given.the-variants.{Nothing}
 use Rattle.fields.specs.declared.Register.{Register}
 use Rattle.components.specs.declared.Component.{Component}
 use Rattle.components.specs.declared.Component.the-variants as component
+use Rattle.components.specs.Components.{kindOf}
 use Rattle.components.proofs.Laws.{first-sound, later-sound, pass-test, pass-on}
 use Rattle.basics.specs.Slices.{cellOf}
-use Rattle.cells.specs.Cells.{componentIn}
+use Rattle.cells.specs.Cells.{entryPlaces, componentIn, placeIn}
+use Rattle.cells.proofs.Laws.{place-low}
+use Rattle.register_log.specs.Log.{placeBound, stepIndices, stepStart}
+use Rattle.register_log.proofs.Laws.{step-start}
 use Rattle.cells.specs.Definitions.{Child, Definition, definitionOf}
 use Rattle.cells.specs.Relation.{IsEntry, Block, block-end, block-on}
 use Rattle.rules.proofs.Instances.{length-more}
@@ -31,6 +36,7 @@ use Rattle.rules.proofs.Closing.{getD-last}
 use Rattle.definition_laws.specs.Sensible.{ValuesFit, register-fits}
 use Rattle.capped.specs.Offsets.{cut}
 use Rattle.capped.proofs.Laws.{cut-low}
+use Rattle.layout.proofs.Laws.{sound-elements}
 use Rattle.layout.specs.Layout.{elements, bottom, shapeAt, shapeOf, shapesFrom, cutShape}
 use Rattle.layout.specs.declared.Shape.{Shape}
 use Rattle.sizes.specs.declared.Extent.{Extent}
@@ -40,13 +46,13 @@ use Rattle.sizes.proofs.Rows.{RowFits, width-range}
 use Rattle.sizes.proofs.Laws.{ready-is-row, ready-row, ready-block}
 use Rattle.sizes.proofs.Children.{ReadyChild, ReadyChildren, ready-none, ready-more, ready-children}
 use Rattle.basics.specs.All.{All, all-none, all-more}
-use Rattle.basics.proofs.All.{all-map, all-both}
-use Rattle.basics.specs.Limits.{nestLimit, registerLimit, fieldLimit, addressEnd}
+use Rattle.basics.proofs.All.{all-at, all-map, all-both}
+use Rattle.basics.specs.Limits.{nameLimit, nestLimit, registerLimit, fieldLimit, addressEnd}
 use Rattle.rows.specs.Rows.{padded, indexCode}
 use Rattle.map_rules.specs.Visits.{PathStep, Visit, indexIn, isGroup}
 use Rattle.map_rules.proofs.Elements.{stepFor, Stepped, Seen, visits-seen}
 use Rattle.map_rules.specs.Whole.{isRegister, isRegisterVisit, tooMany, tooClose, misplaced, registersAmong}
-use Rattle.map_walk.specs.Runs.{stepCells}
+use Rattle.map_walk.specs.Runs.{stepNumber, stepCells}
 use Rattle.map_walk.specs.Walks.{elementsOf, registersOf, surveyFault}
 
 -- an instance in the body of a row, and the cell that holds it
@@ -97,11 +103,27 @@ elements-of-seen text t e row ready low =
     visits-seen (e .rows) (StepOf text t e) (known text t e) (allShapes text t e) (e .mode)
     (λ d l g. all-map held-stepped (group-held text t e d ready l (definitionOf (known text t e) d .component) refl g)) (suc nestLimit) row bottom [] low all-none
 
--- an index of a path in a cell
+-- an index and one more is not above the number of elements
 index-low : (a : Array) (k : ℕ) → k < elements a → indexCode (indexIn a k) ≤ elements a
 index-low array.Missing k h = omega arith
 index-low (array.Size mark n) k h = omega (arith, h)
 index-low (array.Range mark left right) k h = omega arith
+
+-- a step whose number in the log holds all of it
+pub record StepFits (s : PathStep) : Type 0 where
+  pub start : s .name .start < placeBound
+  pub end : s .name .end < placeBound
+  pub index : indexCode (s .index) < stepIndices
+
+pub step-fits : {text t : List ℕ} {e : Extent} (s : PathStep) → StepOf text t e s → StepFits s
+step-fits {text} {t} {e} s o =
+    let c : Child = o .child in
+    let n : Name = c .instance .name in
+    let x : ℕ = cellOf t (o .held .cell) in
+    let p : n .start < entryPlaces = rw (← o .held .entry .starts) (place-low x) in
+    let q : n .end ≤ n .start + nameLimit = instance-short text (placeIn x) (o .held .entry .reads) in
+    let k = sound-elements (kindOf (definitionOf (known text t e) (c .type) .component)) (c .instance) (o .held .fits .addressed) (o .held .fits .sound) in
+    rw (o .same) (record { start = omega (arith, p); end = omega (arith, p, q); index = omega (arith, index-low (c .instance .array) (o .element) (o .low), k .1) })
 
 -- a step in the cells of a path
 abbrev pub noStep : PathStep
@@ -110,42 +132,11 @@ noStep = record { name = record { start = 0; end = 0 }; index = Nothing }
 abbrev pub stepAt : List PathStep → ℕ → PathStep
 stepAt path j = getD path j noStep
 
-later-cell : (a b c : ℕ) (xs : List ℕ) (n : ℕ) → cellOf (a ∷ b ∷ c ∷ xs) (3 + n) ≡ cellOf xs n
-later-cell a b c xs n =
-    let z : 3 + n ≡ suc (suc (suc n)) = omega arith in
-    ap (λ (m : ℕ). cellOf (a ∷ b ∷ c ∷ xs) m) z
-
-step-later : (s : PathStep) (path : List PathStep) (j k : ℕ) → cellOf (stepCells (s ∷ path)) (3 * suc j + k) ≡ cellOf (stepCells path) (3 * j + k)
+step-cell : (path : List PathStep) (j : ℕ) → j < length path → cellOf (stepCells path) j ≡ stepNumber (stepAt path j)
 unfolding stepCells
-step-later s path j k =
-    let z : 3 * suc j + k ≡ 3 + (3 * j + k) = omega arith in
-    ap (λ (m : ℕ). cellOf (stepCells (s ∷ path)) m) z ∙ later-cell (s .name .start) (s .name .end) (indexCode (s .index)) (stepCells path) (3 * j + k)
-
-pub step-start : (path : List PathStep) (j : ℕ) → j < length path → cellOf (stepCells path) (3 * j) ≡ stepAt path j .name .start
-unfolding stepCells
-step-start [] j h = absurd (omega arith)
-step-start (s ∷ path) zero h = refl
-step-start (s ∷ path) (suc j) h =
-    let z : 3 * suc j ≡ 3 * suc j + 0 = omega arith in
-    let w : 3 * j + 0 ≡ 3 * j = omega arith in
-    ap (λ (m : ℕ). cellOf (stepCells (s ∷ path)) m) z ∙ step-later s path j 0 ∙ ap (λ (m : ℕ). cellOf (stepCells path) m) w ∙ step-start path j (omega (arith, h))
-
-pub step-end : (path : List PathStep) (j : ℕ) → j < length path → cellOf (stepCells path) (3 * j + 1) ≡ stepAt path j .name .end
-unfolding stepCells
-step-end [] j h = absurd (omega arith)
-step-end (s ∷ path) zero h = refl
-step-end (s ∷ path) (suc j) h = step-later s path j 1 ∙ step-end path j (omega (arith, h))
-
-pub step-code : (path : List PathStep) (j : ℕ) → j < length path → cellOf (stepCells path) (3 * j + 2) ≡ indexCode (stepAt path j .index)
-unfolding stepCells
-step-code [] j h = absurd (omega arith)
-step-code (s ∷ path) zero h = refl
-step-code (s ∷ path) (suc j) h = step-later s path j 2 ∙ step-code path j (omega (arith, h))
-
-pub step-cells-length : (path : List PathStep) → length (stepCells path) ≡ 3 * length path
-unfolding stepCells
-step-cells-length [] = refl
-step-cells-length (s ∷ path) = omega (arith, step-cells-length path)
+step-cell [] j h = absurd (omega arith)
+step-cell (s ∷ path) zero h = refl
+step-cell (s ∷ path) (suc j) h = step-cell path j (omega (arith, h))
 
 -- cells that are padded
 pub padded-cell : (n : ℕ) (xs : List ℕ) (k : ℕ) → k < n → cellOf (padded n xs) k ≡ cellOf xs k
@@ -167,8 +158,13 @@ module _ (text t : List ℕ) (e : Extent) (depth : ℕ) (v : Visit) (s : Seen (e
       ap (λ (j : ℕ). stepAt (v .path) j .name) z ∙ ap (λ (p : List PathStep). stepAt p (length (s .before)) .name) (s .whole)
       ∙ ap (λ (p : PathStep). p .name) (getD-last (s .before) (s .last) noStep) ∙ s .named
 
-  pub seen-place : cellOf (stepCells (v .path)) (3 * (length (v .path) - 1)) ≡ v .name .start
-  seen-place = step-start (v .path) (length (v .path) - 1) (omega (arith, seen-length)) ∙ ap (λ (n : Name). n .start) seen-last
+  pub seen-place : stepStart (cellOf (stepCells (v .path)) (length (v .path) - 1)) ≡ v .name .start
+  seen-place =
+      let j : ℕ = length (v .path) - 1 in
+      let l : j < length (v .path) = omega (arith, seen-length) in
+      let p : PathStep = stepAt (v .path) j in
+      let f : StepFits p = step-fits p (all-at noStep j (s .steps) l) in
+      ap stepStart (step-cell (v .path) j l) ∙ step-start (p .name .start) (p .name .end) (indexCode (p .index)) (f .start) ∙ ap (λ (n : Name). n .start) seen-last
 
 -- 18, 19 and 20 are kept
 pub few-levels : (table : List Definition) (registers fields : ℕ) (vs : List Visit) → tooMany table registers fields vs ≡ None → All (λ (v : Visit). length (v .path) ≤ 8) vs

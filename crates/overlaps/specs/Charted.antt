@@ -13,7 +13,7 @@ use Rattle.basics.specs.Limits.{registerLimit}
 use Rattle.sizes.specs.declared.Extent.{Extent}
 use Rattle.sizes.specs.Ready.{known}
 use Rattle.sizes.specs.Shapes.{shapeIn, allShapes}
-use Rattle.map_walk.specs.Runs.{logWidth}
+use Rattle.register_log.specs.Log.{logWidth, headAddress, headRow, headDepth, stepStart}
 use Rattle.map_walk.specs.Walks.{Shaped, Logs, elementsOf, registersOf, surveyFault}
 use Rattle.overlaps.specs.declared.Plot.{Plot}
 
@@ -34,8 +34,13 @@ hasIn a (component.Addrmap l m) = true
 -- a register of the log
 unfoldable pub plotIn : List ℕ → List ℕ → ℕ → Plot
 plotIn s log i =
+    let head = cellOf log (i * logWidth) in
     record {
-      row = cellOf log (i * logWidth + 1);
-      address = record { 0 = cellOf log (i * logWidth) };
-      size = shapeIn s (cellOf log (i * logWidth + 1)) .size;
+      row = headRow head;
+      address = record { 0 = headAddress head };
+      size = shapeIn s (headRow head) .size;
     }
+
+-- where its name stands: that of its path's last step
+unfoldable pub lastPlace : List ℕ → ℕ → ℕ
+lastPlace log i = stepStart (cellOf log (i * logWidth + headDepth (cellOf log (i * logWidth))))

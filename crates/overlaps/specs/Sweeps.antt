@@ -15,7 +15,7 @@ use Rattle.cells.specs.Definitions.{Definition}
 use Rattle.sizes.specs.declared.Extent.{Extent}
 use Rattle.sizes.specs.Ready.{known}
 use Rattle.map_rules.specs.Whole.{hasAccess}
-use Rattle.map_walk.specs.Runs.{logWidth}
+use Rattle.register_log.specs.Log.{logWidth, headAddress}
 use Rattle.map_walk.specs.Walks.{registersOf}
 use Rattle.overlaps.specs.declared.Stretch.{Stretch}
 use Rattle.overlaps.specs.declared.Side.{Side}
@@ -27,7 +27,7 @@ registerCount text t e = length (registersOf text t e (e .map))
 
 -- where a register of the log starts
 abbrev pub startIn : List ℕ → ℕ → ℕ
-startIn log i = cellOf log (i * logWidth)
+startIn log i = headAddress (cellOf log (i * logWidth))
 
 -- the bytes and the access of a register of the log
 unfoldable pub stretchIn : List Definition → List ℕ → List ℕ → ℕ → Stretch

@@ -8,18 +8,16 @@ use sizes::Extent;
 ghost use mathlib.Core.Path.{_≡_};
 ghost use mathlib.Core.Bool.{true};
 ghost use mathlib.Core.List.{[]};
-ghost use Prim.Native.Nat.{_+_, _*_, _<_, _≤_};
+ghost use Prim.Native.Nat.{_<_, _≤_};
 ghost use lib.ListN.{length};
-ghost use Rattle.basics.specs.Slices.{cellOf};
-ghost use Rattle.basics.specs.Limits.{definitionLimit, nestLimit, registerLimit};
+ghost use Rattle.basics.specs.Limits.{registerLimit};
 ghost use Rattle.orders.specs.Keys.{Keyed};
 ghost use Rattle.orders.specs.Unique.{meets, firstMeeting, SomeMeeting};
 ghost use Rattle.sizes.specs.Ready.{known, Ready};
 ghost use Rattle.sizes.specs.Shapes.{allShapes};
 ghost use Rattle.map_rules.specs.Whole.{hasAccess, overlapping};
-ghost use Rattle.map_walk.specs.Runs.{logWidth};
 ghost use Rattle.map_walk.specs.Walks.{elementsOf, registersOf};
-ghost use Rattle.overlaps.specs.Charted.{Charted, hasIn, plotIn};
+ghost use Rattle.overlaps.specs.Charted.{Charted, hasIn, plotIn, lastPlace};
 ghost use Rattle.overlaps.specs.Sweeps.{registerCount, startIn, stretchIn, clashIn, LowStarts, Sweepable, sideOf, Reaches};
 
 // A register of the log: its type's row, its address and its size in bytes.
@@ -76,12 +74,12 @@ fn has_access(text: &[u8], cells: &[u64], extent: Extent, row: usize, access: u6
 
 // A register of the log.
 fn plot_at(shapes: &[u64], log: &[u64], i: usize) -> Plot
-    requires { ⌜ (i ≤ registerLimit) × (cellOf (now log) (i * logWidth + 1) < definitionLimit) ⌝ }
+    requires { ⌜ i ≤ registerLimit ⌝ }
     ensures { λ r. ⌜ r ≡ plotIn (now (shapes .entry)) (now (log .entry)) i ⌝ }
 {
-    let start = i * map_walk::LOG_WIDTH;
-    let address = Offset(basics::cell(log, start));
-    let row = basics::cell(log, start + 1) as usize;
+    let head = basics::cell(log, i * register_log::LOG_WIDTH);
+    let address = Offset(register_log::head_address(head));
+    let row = register_log::head_row(head);
     let shape = sizes::shape_at(shapes, row);
     Plot {
         row,
@@ -92,12 +90,12 @@ fn plot_at(shapes: &[u64], log: &[u64], i: usize) -> Plot
 
 // Where the name of a register of the log stands: that of its path's last step.
 fn place_at(log: &[u64], i: usize) -> usize
-    requires { ⌜ (i ≤ registerLimit) × (cellOf (now log) (i * logWidth + 2) ≤ nestLimit) ⌝ }
-    ensures { λ r. ⌜ r ≡ cellOf (now (log .entry)) (i * logWidth + 3 * cellOf (now (log .entry)) (i * logWidth + 2)) ⌝ }
+    requires { ⌜ i ≤ registerLimit ⌝ }
+    ensures { λ r. ⌜ r ≡ lastPlace (now (log .entry)) i ⌝ }
 {
-    let start = i * map_walk::LOG_WIDTH;
-    let depth = basics::cell(log, start + 2) as usize;
-    basics::cell(log, start + 3 * depth) as usize
+    let start = i * register_log::LOG_WIDTH;
+    let depth = register_log::head_depth(basics::cell(log, start));
+    register_log::step_start(basics::cell(log, start + depth))
 }
 
 // The bytes and the access of a register of the log.
@@ -252,7 +250,7 @@ fn put_keys(log: &[u64], keys: &mut [u64])
 {
     let mut i = 0;
     while i < keys.len() {
-        let address = basics::cell(log, i * map_walk::LOG_WIDTH);
+        let address = register_log::head_address(basics::cell(log, i * register_log::LOG_WIDTH));
         keys[i] = address * basics::REGISTER_LIMIT as u64 + i as u64;
         i += 1;
     }

@@ -5,17 +5,13 @@ use mathlib.Core.List.{List, _∷_}
 use Prim.Native.Nat.{ℕ, suc, _+_, _-_, _*_, _<_, _≤_}
 use native.Mathlib.Omega.{arith}
 use lib.Dec.{eqb, ltb}
-use lib.ListN.{length, set, getD, length-set}
-use lib.Seq.{getD-set-same, getD-set-other}
+use lib.ListN.{length, set, getD}
 use borrow.Author.Tests.{eqb-true, eqb-false, ltb-true, ltb-false, eq-eqb, ne-eqb}
 use Rattle.basics.specs.Limits.{definitionLimit}
 use Rattle.basics.specs.Slices.{cellOf, written}
 use Rattle.parts.specs.Reading.{ok}
 use Rattle.parts.specs.Parts.{instanceAt}
-use Rattle.parts.specs.Answers.{instanceRead}
 use Rattle.parts.specs.declared.Instance.{Instance}
-use Rattle.parts.specs.declared.InstanceReading.{InstanceReading}
-use Rattle.parts.specs.declared.InstanceReading.the-variants as instanceReading
 use Rattle.cells.specs.Cells.{placeIn, rowIn}
 use Rattle.cells.specs.Decoded.{childIn}
 use Rattle.cells.specs.declared.ChildReading.the-variants as childReading
@@ -23,7 +19,7 @@ use Rattle.cells.proofs.Laws.{written-length, written-other, written-same}
 use Rattle.layout.specs.declared.Shape.{Shape}
 use Rattle.sizes.specs.Shapes.{shapeWidth, shapeIn, ShapesIn}
 use Rattle.recall.specs.Encoded.{instanceCells, instanceIn}
-use Rattle.recall.specs.Shelves.{shelfCount, shelfWidth, recallSize, shelfAt, GivenAt, Shelved, ShapesStay, Shelving, Cleared}
+use Rattle.recall.specs.Shelves.{shelfCount, shelfWidth, recallSize, shelfAt, GivenAt, Shelved, ShapesStay, Shelving}
 use Rattle.recall.proofs.Encoding.{instance-back, cells-count, instance-same}
 
 -- whether a shelf holds a place
@@ -39,10 +35,10 @@ module _ (s : List ℕ) (at place : ℕ) {key : ℕ} (e : key ≡ cellOf s at) w
       by false x = sym (ne-eqb (cellOf s at) (place + 1) (λ f. eqb-false (key - 1) place x (omega arith)))
 
 -- the shapes stay
-stay-all : (s : List ℕ) → ShapesStay s s
+pub stay-all : (s : List ℕ) → ShapesStay s s
 stay-all s = record { same = refl; cells = λ j l. refl }
 
-stay-more : {s t u : List ℕ} → ShapesStay s t → ShapesStay t u → ShapesStay s u
+pub stay-more : {s t u : List ℕ} → ShapesStay s t → ShapesStay t u → ShapesStay s u
 stay-more a b = record { same = b .same ∙ a .same; cells = λ j l. b .cells j l ∙ a .cells j l }
 
 shape-stays : (s u : List ℕ) (r : ℕ) → ShapesStay s u → r < definitionLimit → shapeIn u r ≡ shapeIn s r
@@ -64,11 +60,6 @@ shelf-child text t s i {x} {place} {k} {at} {row} {b} {y} h e1 e2 l e3 e4 e5 (e6
     let g : GivenAt text place (instanceIn s (shelfAt k + 1)) = h .each k place l held in
     let same : y ≡ instanceIn s (shelfAt k + 1) = e7 ∙ ap (λ (n : ℕ). instanceIn s (n + 1)) e3 in
     rw (← e1, ← e2, g .reads, e6, same)
-
--- an instance that is read
-pub given-at : (text : List ℕ) (place : ℕ) {y : InstanceReading} {i : Instance} {next : ℕ} → instanceRead y ≡ instanceAt text place
-    → y ≡ instanceReading.Done i next → instanceAt text place ≡ ok i next
-given-at text place e f = sym e ∙ ap instanceRead f
 
 -- an instance put on its shelf
 module _ (text s : List ℕ) (k place : ℕ) (i : Instance) {next at : ℕ} {t u : List ℕ} (h : Shelved text s) (long : recallSize ≤ length s)
@@ -136,64 +127,9 @@ module _ (text s : List ℕ) (k place : ℕ) (i : Instance) {next at : ℕ} {t u
         stay = record { same = rw whole (written-length s (shelfAt k) slab); cells = λ j m. cell-other j (λ w. absurd (omega arith)) };
       }
 
--- a pass that keeps instances, one after another
-pub record Ongoing (text s u : List ℕ) : Type 0 where
-  pub keeps : Shelving text s u
-  pub long : recallSize ≤ length u
-
+-- nothing kept, and one pass after another
 pub keeps-none : (text s : List ℕ) → Shelved text s → Shelving text s s
 keeps-none text s h = record { shelved = h; stay = stay-all s }
 
-pub ongoing-start : (text s : List ℕ) → Shelved text s → recallSize ≤ length s → Ongoing text s s
-ongoing-start text s h l = record { keeps = keeps-none text s h; long = l }
-
-pub ongoing-next : (text : List ℕ) {s t u : List ℕ} → Ongoing text s t → Shelving text t u → Ongoing text s u
-ongoing-next text p k =
-    record {
-      keeps = record { shelved = k .shelved; stay = stay-more (p .keeps .stay) (k .stay) };
-      long = let z = k .stay .same in let w = p .long in omega arith;
-    }
-
--- empty shelves
-pub record Clearing (s u : List ℕ) (shelf : ℕ) : Type 0 where
-  pub long : recallSize ≤ length s
-  pub empty : (k : ℕ) → k < shelf → cellOf u (shelfAt k) ≡ 0
-  pub stay : ShapesStay s u
-
-pub clearing-start : (s : List ℕ) → recallSize ≤ length s → Clearing s s 0
-clearing-start s l = record { long = l; empty = λ k m. absurd (omega arith); stay = stay-all s }
-
-module _ (s : List ℕ) {u : List ℕ} {shelf : ℕ} (c : Clearing s u shelf) where
-  pub clearing-end : shelfCount ≤ shelf → Cleared s u
-  clearing-end h = record { empty = λ k m. c .empty k (omega arith); stay = c .stay }
-
-  pub clearing-next : {at : ℕ} {v : List ℕ} → shelf < shelfCount → at ≡ shelfAt shelf → v ≡ set u at 0 → Clearing s v (shelf + 1)
-  clearing-next {at} {v} h e f =
-      let whole : v ≡ set u (shelfAt shelf) 0 = f ∙ ap (λ (n : ℕ). set u n 0) e in
-      record {
-        long = c .long;
-        empty = λ k m. rw whole (by k (ltb k shelf) refl m);
-        stay =
-            record {
-              same = rw whole (length-set u (shelfAt shelf) 0 ∙ c .stay .same);
-              cells = λ j m. rw whole (getD-set-other u (shelfAt shelf) j 0 0 (λ z. omega arith) ∙ c .stay .cells j m);
-            };
-      }
-    where
-      by : (k : ℕ) (b : Bool) → ltb k shelf ≡ b → k < shelf + 1 → cellOf (set u (shelfAt shelf) 0) (shelfAt k) ≡ 0
-      by k true x m =
-          let w : k < shelf = ltb-true k shelf x in
-          getD-set-other u (shelfAt shelf) (shelfAt k) 0 0 (λ z. omega arith) ∙ c .empty k w
-      by k false x m =
-          let w : k ≡ shelf = omega (arith, ltb-false k shelf x) in
-          rw w (getD-set-same u (shelfAt shelf) 0 0 (let z = c .stay .same in let y = c .long in omega arith))
-
--- a pass that begins with empty shelves
-module _ (text : List ℕ) {s t : List ℕ} (c : Cleared s t) where
-  pub cleared-start : recallSize ≤ length s → Ongoing text t t
-  cleared-start l =
-      ongoing-start text t (record { each = λ k place m e. absurd (let z = c .empty k m in omega arith) })
-      (let z = c .stay .same in omega arith)
-
-  pub cleared-end : {u : List ℕ} → Ongoing text t u → Shelving text s u
-  cleared-end p = record { shelved = p .keeps .shelved; stay = stay-more (c .stay) (p .keeps .stay) }
+pub keeps-more : {text s t u : List ℕ} → Shelving text s t → Shelving text t u → Shelving text s u
+keeps-more a b = record { shelved = b .shelved; stay = stay-more (a .stay) (b .stay) }

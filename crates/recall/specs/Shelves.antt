@@ -1,5 +1,5 @@
 -- The shelves behind the shapes: 1,024 of 33 cells, each with the place of an instance and one more, or 0, and then this instance. Which
--- instances are kept is a matter of speed, and nothing is claimed of it.
+-- instances are kept, specs/Kept says; it is a matter of speed, and nothing else stands on it.
 use mathlib.Core.Path.{_≡_}
 use mathlib.Core.List.{List}
 use Prim.Native.Nat.{ℕ, _+_, _*_, _<_}
@@ -42,9 +42,4 @@ pub record ShapesStay (s u : List ℕ) : Type 0 where
 -- what a pass that keeps instances leaves
 pub record Shelving (text s u : List ℕ) : Type 0 where
   pub shelved : Shelved text u
-  pub stay : ShapesStay s u
-
--- what is left where all shelves are emptied
-pub record Cleared (s u : List ℕ) : Type 0 where
-  pub empty : (k : ℕ) → k < shelfCount → cellOf u (shelfAt k) ≡ 0
   pub stay : ShapesStay s u

@@ -12,16 +12,14 @@ ghost use mathlib.Core.Path.{_≡_};
 ghost use mathlib.Core.List.{[]};
 ghost use Prim.Native.Nat.{_+_, _<_, _≤_};
 ghost use lib.Dec.{eqb};
-ghost use lib.ListN.{length};
 ghost use Rattle.basics.specs.Limits.{definitionLimit, indexBound};
 ghost use Rattle.basics.specs.Slices.{cellOf, written};
-ghost use Rattle.parts.specs.Reading.{ok};
-ghost use Rattle.parts.specs.Parts.{instanceAt};
 ghost use Rattle.cells.specs.Cells.{instanceRoom, firstIn, countIn};
 ghost use Rattle.cells.specs.Decoded.{childIn};
 ghost use Rattle.sizes.specs.Ready.{Ready};
 ghost use Rattle.recall.specs.Encoded.{tagOf, operatorOf, encodedOf, refusalFrom, suffixFrom, encodedIn, suffixIn, leftOf, rightOf, arrayFrom, suffixCells, instanceCells, instanceIn};
-ghost use Rattle.recall.specs.Shelves.{shelfCount, recallSize, shelfAt, Shelved, Shelving, Cleared};
+ghost use Rattle.recall.specs.Shelves.{shelfCount, recallSize, shelfAt, Shelved};
+ghost use Rattle.recall.specs.Kept.{reachOf, shelfOf, isSurelyShort, keptOne, keptAt, keptRow, emptied, keptLong};
 
 // How many shelves there are, and the cells of one: a place, and an instance.
 const SHELF_COUNT: usize = 1024;
@@ -231,21 +229,23 @@ fn put_instance(shapes: &mut [u64], at: usize, instance: Instance)
 // How many bytes make an instance long: a text's share for one shelf, so that no two long ones meet on a shelf. This and the choice of the
 // shelf are a matter of speed.
 fn reach(length: usize) -> usize
-    ensures { λ r. ⌜ 1 ≤ r ⌝ }
+    ensures { λ r. ⌜ r ≡ reachOf length ⌝ }
 {
     length / SHELF_COUNT + 1
 }
 
 // The shelf of a place.
 fn shelf_of(length: usize, place: usize) -> usize
-    ensures { λ r. ⌜ r < shelfCount ⌝ }
+    ensures { λ r. ⌜ (r ≡ shelfOf length place) × (r < shelfCount) ⌝ }
 {
     place / reach(length) % SHELF_COUNT
 }
 
 // Whether the instance of a cell is surely short, since that of the next cell begins so near behind it. The next cell may belong to another
 // body, which then stands elsewhere.
-fn is_short(length: usize, cells: &[u64], i: usize) -> bool {
+fn is_surely_short(length: usize, cells: &[u64], i: usize) -> bool
+    ensures { λ r. ⌜ r ≡ isSurelyShort length (now (cells .entry)) i ⌝ }
+{
     if cells.len() <= i {
         return false;
     }
@@ -281,7 +281,7 @@ pub fn child_at(text: &[u8], cells: &[u64], shapes: &[u64], i: usize) -> ChildRe
     requires { ⌜ Shelved (now text) (now shapes) ⌝ }
     ensures { λ r. ⌜ r ≡ childIn (now (text .entry)) (cellOf (now (cells .entry)) i) ⌝ }
 {
-    if is_short(text.len(), cells, i) {
+    if is_surely_short(text.len(), cells, i) {
         return cells::child_at(text, cells, i);
     }
     let entry = basics::cell(cells, i);
@@ -297,8 +297,7 @@ pub fn child_at(text: &[u8], cells: &[u64], shapes: &[u64], i: usize) -> ChildRe
 
 // Empties all shelves.
 fn clear_shelves(shapes: &mut [u64])
-    requires { ⌜ recallSize ≤ length (now shapes) ⌝ }
-    ensures { λ _. ⌜ Cleared (now (shapes .entry)) (now (shapes .exit)) ⌝ }
+    ensures { λ _. ⌜ now (shapes .exit) ≡ emptied (now (shapes .entry)) 0 shelfCount ⌝ }
 {
     let mut shelf = 0;
     while shelf < SHELF_COUNT {
@@ -309,8 +308,7 @@ fn clear_shelves(shapes: &mut [u64])
 
 // Keeps the instance of a place, if it is long: from its place to the word behind it, which is looked at whenever it is read.
 fn keep(text: &[u8], shapes: &mut [u64], place: usize, instance: Instance, next: usize)
-    requires { ⌜ Shelved (now text) (now shapes) × (recallSize ≤ length (now shapes)) × (instanceAt (now text) place ≡ ok instance next) ⌝ }
-    ensures { λ _. ⌜ Shelving (now (text .entry)) (now (shapes .entry)) (now (shapes .exit)) ⌝ }
+    ensures { λ _. ⌜ now (shapes .exit) ≡ keptOne (now (text .entry)) (now (shapes .entry)) place instance next ⌝ }
 {
     let token = lex::next_token(text, next);
     let end = token.start;
@@ -327,10 +325,9 @@ fn keep(text: &[u8], shapes: &mut [u64], place: usize, instance: Instance, next:
 
 // Reads the instance of a cell, and keeps it if it is long.
 fn keep_at(text: &[u8], cells: &[u64], shapes: &mut [u64], i: usize)
-    requires { ⌜ Shelved (now text) (now shapes) × (recallSize ≤ length (now shapes)) ⌝ }
-    ensures { λ _. ⌜ Shelving (now (text .entry)) (now (shapes .entry)) (now (shapes .exit)) ⌝ }
+    ensures { λ _. ⌜ now (shapes .exit) ≡ keptAt (now (text .entry)) (now (cells .entry)) (now (shapes .entry)) i ⌝ }
 {
-    if is_short(text.len(), cells, i) {
+    if is_surely_short(text.len(), cells, i) {
         return;
     }
     let place = cells::place_in(basics::cell(cells, i));
@@ -344,8 +341,8 @@ fn keep_at(text: &[u8], cells: &[u64], shapes: &mut [u64], i: usize)
 
 // Keeps the long ones of a definition's instances; those of the map itself are read once anyway.
 fn keep_row(text: &[u8], cells: &[u64], shapes: &mut [u64], extent: Extent, row: usize)
-    requires { ⌜ (row < definitionLimit) × (firstIn (now cells) row + countIn (now cells) row ≤ instanceRoom) × Shelved (now text) (now shapes) × (recallSize ≤ length (now shapes)) ⌝ }
-    ensures { λ _. ⌜ Shelving (now (text .entry)) (now (shapes .entry)) (now (shapes .exit)) ⌝ }
+    requires { ⌜ (row < definitionLimit) × (firstIn (now cells) row + countIn (now cells) row ≤ instanceRoom) ⌝ }
+    ensures { λ _. ⌜ now (shapes .exit) ≡ keptRow (now (text .entry)) (now (cells .entry)) (now (shapes .entry)) (extent .map) row ⌝ }
 {
     if row == extent.map {
         return;
@@ -360,8 +357,8 @@ fn keep_row(text: &[u8], cells: &[u64], shapes: &mut [u64], extent: Extent, row:
 
 // Keeps the long ones of all instances, on shelves that are empty before. The shapes stay.
 pub fn keep_long_instances(text: &[u8], cells: &[u64], shapes: &mut [u64], extent: Extent)
-    requires { ⌜ Ready (now text) (now cells) extent × (recallSize ≤ length (now shapes)) ⌝ }
-    ensures { λ _. ⌜ Shelving (now (text .entry)) (now (shapes .entry)) (now (shapes .exit)) ⌝ }
+    requires { ⌜ Ready (now text) (now cells) extent ⌝ }
+    ensures { λ _. ⌜ now (shapes .exit) ≡ keptLong (now (text .entry)) (now (cells .entry)) (now (shapes .entry)) extent ⌝ }
 {
     clear_shelves(shapes);
     let mut row = 0;

@@ -6,8 +6,8 @@ use Prim.Native.Nat.{ℕ, zero, suc, _+_, _-_, _*_, _<_, _≤_}
 use native.Mathlib.Omega.{arith}
 use lib.ListN.{length, getD, drop, set}
 use Rattle.identifiers.specs.Names.{bytesOf}
-use Rattle.map_walk.specs.Runs.{logWidth}
-use Rattle.basics.specs.Limits.{nestLimit, registerRowWidth, nameWidth}
+use Rattle.register_log.specs.Log.{logWidth, depthBound, placeBound, headAddress, headRow, headDepth, stepStart, stepEnd, stepIndex}
+use Rattle.basics.specs.Limits.{nestLimit, definitionLimit, registerRowWidth, nameWidth}
 use Rattle.basics.specs.Slices.{cellOf, written}
 use Rattle.basics.specs.Given.{flagOf, numberOf}
 use Rattle.cells.specs.Cells.{componentIn}
@@ -73,25 +73,25 @@ module _ (at : ℕ) (name : List ℕ) where
 
 -- the names of a path of the log
 module _ (text log : List ℕ) (steps at : ℕ) where
-  pub steps-start : (t : List ℕ) → written t (at + 0 * 32) (namesIn text log (steps + 3 * 0) (8 - 0)) ≡ written t at (namesIn text log steps 8)
+  pub steps-start : (t : List ℕ) → written t (at + 0 * 32) (namesIn text log (steps + 0) (8 - 0)) ≡ written t at (namesIn text log steps 8)
   steps-start t = rw (at-start at, at-start steps)
 
-  module _ (t : List ℕ) (k : ℕ) {x : List ℕ} (left : written t (at + k * nameWidth) (namesIn text log (steps + 3 * k) (8 - k)) ≡ x) where
+  module _ (t : List ℕ) (k : ℕ) {x : List ℕ} (left : written t (at + k * nameWidth) (namesIn text log (steps + k) (8 - k)) ≡ x) where
     pub steps-end : 8 ≤ k → t ≡ x
     unfolding written namesIn
     steps-end h = rw (left-none 8 k h) at left
 
-    pub steps-next : {u name : List ℕ} {a b : ℕ} → k < 8 → a ≡ cellOf log (steps + 3 * k) → b ≡ cellOf log (steps + (3 * k + 1)) → name ≡ bytesOf text a b → u ≡ written t (at + k * nameWidth) (nameCell name)
-        → written u (at + (k + 1) * 32) (namesIn text log (steps + 3 * (k + 1)) (8 - (k + 1))) ≡ x
+    pub steps-next : {u name : List ℕ} {step a b : ℕ} → k < 8 → step ≡ cellOf log (steps + k) → (a ≡ stepStart step) × (a < placeBound) → (b ≡ stepEnd step) × (b < placeBound) → name ≡ bytesOf text a b
+        → u ≡ written t (at + k * nameWidth) (nameCell name) → written u (at + (k + 1) * 32) (namesIn text log (steps + (k + 1)) (8 - (k + 1))) ≡ x
     unfolding namesIn
-    steps-next {u} {name} {a} {b} h e f g w =
-        let others : List ℕ = namesIn text log (steps + 3 * (k + 1)) (8 - (k + 1)) in
-        let m : steps + (3 * k + 1) ≡ steps + 3 * k + 1 = omega arith in
-        let l : steps + 3 * k + 3 ≡ steps + 3 * (k + 1) = omega arith in
-        let here : name ≡ bytesOf text (cellOf log (steps + 3 * k)) (cellOf log (steps + 3 * k + 1)) =
-        g ∙ ap (λ (n : ℕ). bytesOf text n b) e ∙ ap (bytesOf text (cellOf log (steps + 3 * k))) (f ∙ ap (cellOf log) m) in
-        let q : namesIn text log (steps + 3 * k) (8 - k) ≡ nameCell name ++ others =
-        ap (namesIn text log (steps + 3 * k)) (left-more 8 k h) ∙ ap (λ (n : ℕ). nameCell (bytesOf text (cellOf log (steps + 3 * k)) (cellOf log (steps + 3 * k + 1))) ++ namesIn text log n (8 - (k + 1))) l
+    steps-next {u} {name} {step} {a} {b} h d e f g w =
+        let others : List ℕ = namesIn text log (steps + (k + 1)) (8 - (k + 1)) in
+        let own : ℕ = cellOf log (steps + k) in
+        let l : steps + k + 1 ≡ steps + (k + 1) = omega arith in
+        let here : name ≡ bytesOf text (stepStart own) (stepEnd own) =
+        g ∙ ap (λ (n : ℕ). bytesOf text n b) (e .0) ∙ ap (bytesOf text (stepStart step)) (f .0) ∙ ap (λ (n : ℕ). bytesOf text (stepStart n) (stepEnd n)) d in
+        let q : namesIn text log (steps + k) (8 - k) ≡ nameCell name ++ others =
+        ap (namesIn text log (steps + k)) (left-more 8 k h) ∙ ap (λ (n : ℕ). nameCell (bytesOf text (stepStart own) (stepEnd own)) ++ namesIn text log n (8 - (k + 1))) l
         ∙ ap (λ (s : List ℕ). nameCell s ++ others) (sym here) in
         let n : at + k * nameWidth + length (nameCell name) ≡ at + (k + 1) * 32 = omega (arith, length-padded 32 name) in
         ap (λ (s : List ℕ). written s (at + (k + 1) * 32) others) w
@@ -100,24 +100,24 @@ module _ (text log : List ℕ) (steps at : ℕ) where
 
 -- the indices of a path of the log
 module _ (log : List ℕ) (steps at : ℕ) where
-  pub indices-start : (t : List ℕ) → written t (at + 0) (indicesIn log (steps + 3 * 0) (8 - 0)) ≡ written t at (indicesIn log steps 8)
+  pub indices-start : (t : List ℕ) → written t (at + 0) (indicesIn log (steps + 0) (8 - 0)) ≡ written t at (indicesIn log steps 8)
   indices-start t = rw (at-start at, at-start steps)
 
-  module _ (t : List ℕ) (k : ℕ) {x : List ℕ} (left : written t (at + k) (indicesIn log (steps + 3 * k) (8 - k)) ≡ x) where
+  module _ (t : List ℕ) (k : ℕ) {x : List ℕ} (left : written t (at + k) (indicesIn log (steps + k) (8 - k)) ≡ x) where
     pub indices-end : 8 ≤ k → t ≡ x
     unfolding written indicesIn
     indices-end h = rw (left-none 8 k h) at left
 
-    pub indices-next : {u : List ℕ} {a : ℕ} → k < 8 → a ≡ cellOf log (steps + (3 * k + 2)) → u ≡ set t (at + k) a → written u (at + (k + 1)) (indicesIn log (steps + 3 * (k + 1)) (8 - (k + 1))) ≡ x
+    pub indices-next : {u : List ℕ} {step a : ℕ} → k < 8 → step ≡ cellOf log (steps + k) → a ≡ stepIndex step → u ≡ set t (at + k) a
+        → written u (at + (k + 1)) (indicesIn log (steps + (k + 1)) (8 - (k + 1))) ≡ x
     unfolding written indicesIn
-    indices-next {u} {a} h e w =
-        let others : List ℕ = indicesIn log (steps + 3 * (k + 1)) (8 - (k + 1)) in
-        let m : steps + (3 * k + 2) ≡ steps + 3 * k + 2 = omega arith in
-        let l : steps + 3 * k + 3 ≡ steps + 3 * (k + 1) = omega arith in
+    indices-next {u} {step} {a} h d e w =
+        let others : List ℕ = indicesIn log (steps + (k + 1)) (8 - (k + 1)) in
+        let l : steps + k + 1 ≡ steps + (k + 1) = omega arith in
         let n : at + (k + 1) ≡ at + k + 1 = omega arith in
-        let q : indicesIn log (steps + 3 * k) (8 - k) ≡ a ∷ others =
-        ap (indicesIn log (steps + 3 * k)) (left-more 8 k h) ∙ ap (λ (n : ℕ). cellOf log (steps + 3 * k + 2) ∷ indicesIn log n (8 - (k + 1))) l
-        ∙ ap (λ (n : ℕ). n ∷ others) (sym (e ∙ ap (cellOf log) m)) in
+        let q : indicesIn log (steps + k) (8 - k) ≡ a ∷ others =
+        ap (indicesIn log (steps + k)) (left-more 8 k h) ∙ ap (λ (n : ℕ). stepIndex (cellOf log (steps + k)) ∷ indicesIn log n (8 - (k + 1))) l
+        ∙ ap (λ (n : ℕ). n ∷ others) (sym (e ∙ ap stepIndex d)) in
         ap (λ (s : List ℕ). written s (at + (k + 1)) others) w
         ∙ ap (λ (n : ℕ). written (set t (at + k) a) n others) n
         ∙ ap (written t (at + k)) (sym q) ∙ left
@@ -156,21 +156,14 @@ six-put t i a b c d e f xs e1 e2 e3 e4 e5 e6 e7 =
     let n6 : i + 5 + 1 ≡ i + 6 = omega arith in
     rw (n2, n3, n4, n5, n6, e7, e6, e5, e4, e3, e2, e1)
 
-numbers-of : (cells log : List ℕ) (i first count : ℕ) {row a d : ℕ} {c : Component} {r : Register}
-    → row ≡ cellOf log (i * logWidth + 1) → c ≡ componentIn cells row → r ≡ widthsOf c → a ≡ cellOf log (i * logWidth) → d ≡ cellOf log (i * logWidth + 2)
-    → a ∷ r .width ∷ r .access ∷ first ∷ count ∷ d ∷ indicesIn log (i * logWidth + 3) nestLimit ≡ numbersIn cells log i first count
-unfolding numbersIn
-numbers-of cells log i first count {row} {a} {d} {c} {r} p q s k m =
-    let w : r ≡ widthsOf (componentIn cells (cellOf log (i * logWidth + 1))) = s ∙ ap widthsOf (q ∙ ap (componentIn cells) p) in
-    let xs : List ℕ = indicesIn log (i * logWidth + 3) nestLimit in
-    ap (λ (x : Register). a ∷ x .width ∷ x .access ∷ first ∷ count ∷ d ∷ xs) w
-    ∙ ap (λ (n : ℕ). n ∷ widthsOf (componentIn cells (cellOf log (i * logWidth + 1))) .width ∷ widthsOf (componentIn cells (cellOf log (i * logWidth + 1))) .access ∷ first ∷ count ∷ d ∷ xs) k
-    ∙ ap (λ (n : ℕ). cellOf log (i * logWidth) ∷ widthsOf (componentIn cells (cellOf log (i * logWidth + 1))) .width ∷ widthsOf (componentIn cells (cellOf log (i * logWidth + 1))) .access ∷ first ∷ count ∷ n ∷ xs) m
+module _ (cells log : List ℕ) (i first count : ℕ) {head row a d : ℕ} {c : Component} {r : Register} (p : head ≡ cellOf log (i * logWidth)) (o : (row ≡ headRow head) × (row < definitionLimit))
+    (q : c ≡ componentIn cells row) (s : r ≡ widthsOf c) (k : a ≡ headAddress head) (m : (d ≡ headDepth head) × (d < depthBound)) where
+  numbers-of : a ∷ r .width ∷ r .access ∷ first ∷ count ∷ d ∷ indicesIn log (i * logWidth + 1) nestLimit ≡ numbersIn cells log i first count
+  unfolding numbersIn
+  numbers-of = rw (m .0, k, s, q, o .0, p)
 
-pub register-put : (cells log : List ℕ) (i first count : ℕ) (t : List ℕ) {row a d : ℕ} {c : Component} {r : Register} {t1 t2 t3 t4 t5 t6 t7 : List ℕ}
-    → row ≡ cellOf log (i * logWidth + 1) → c ≡ componentIn cells row → r ≡ widthsOf c → a ≡ cellOf log (i * logWidth) → d ≡ cellOf log (i * logWidth + 2)
-    → t1 ≡ set t (i * registerRowWidth) a → t2 ≡ set t1 (i * registerRowWidth + 1) (r .width) → t3 ≡ set t2 (i * registerRowWidth + 2) (r .access) → t4 ≡ set t3 (i * registerRowWidth + 3) first → t5 ≡ set t4 (i * registerRowWidth + 4) count
-    → t6 ≡ set t5 (i * registerRowWidth + 5) d → t7 ≡ written t6 (i * registerRowWidth + 6) (indicesIn log (i * logWidth + 3) nestLimit) → t7 ≡ written t (i * registerRowWidth) (numbersIn cells log i first count)
-register-put cells log i first count t {a = a} {d = d} {r = r} p q s k m e1 e2 e3 e4 e5 e6 e7 =
-    six-put t (i * registerRowWidth) a (r .width) (r .access) first count d (indicesIn log (i * logWidth + 3) nestLimit) e1 e2 e3 e4 e5 e6 e7
-    ∙ ap (written t (i * registerRowWidth)) (numbers-of cells log i first count p q s k m)
+  pub register-put : (t : List ℕ) {t1 t2 t3 t4 t5 t6 t7 : List ℕ} → t1 ≡ set t (i * registerRowWidth) a → t2 ≡ set t1 (i * registerRowWidth + 1) (r .width) → t3 ≡ set t2 (i * registerRowWidth + 2) (r .access)
+      → t4 ≡ set t3 (i * registerRowWidth + 3) first → t5 ≡ set t4 (i * registerRowWidth + 4) count → t6 ≡ set t5 (i * registerRowWidth + 5) d
+      → t7 ≡ written t6 (i * registerRowWidth + 6) (indicesIn log (i * logWidth + 1) nestLimit) → t7 ≡ written t (i * registerRowWidth) (numbersIn cells log i first count)
+  register-put t e1 e2 e3 e4 e5 e6 e7 =
+      six-put t (i * registerRowWidth) a (r .width) (r .access) first count d (indicesIn log (i * logWidth + 1) nestLimit) e1 e2 e3 e4 e5 e6 e7 ∙ ap (written t (i * registerRowWidth)) numbers-of

@@ -8,7 +8,7 @@ use lib.Dec.{ltb}
 use lib.ListN.{length, drop, drop-of-length-le}
 use lib.Seq.{drop-cons}
 use borrow.Author.Tests.{ltb-false}
-use Rattle.map_walk.specs.Runs.{logWidth}
+use Rattle.register_log.specs.Log.{logWidth, headRow}
 use Rattle.basics.specs.Choice.{if_then_else_}
 use Rattle.chars.proofs.Laws.{or-right}
 use Rattle.parts.specs.declared.Name.{Name}
@@ -33,8 +33,10 @@ use Rattle.map_rules.specs.Visits.{Visit}
 use Rattle.map_rules.specs.Whole.{isRegisterVisit, tooMany, tooClose, misplaced, registersAmong}
 use Rattle.map_walk.specs.Walks.{LogRow, noVisit, visitAt, elementsOf, registersOf}
 use Rattle.overlaps.specs.Charted.{Charted}
-use Rattle.basics.proofs.All.{all-at}
-use Rattle.overlaps.proofs.Visits.{RegisterSeen, registers-seen}
+use Rattle.basics.specs.All.{All}
+use Rattle.basics.proofs.All.{all-at, all-map}
+use Rattle.overlaps.proofs.Visits.{StepFits, step-fits, RegisterSeen, registers-seen}
+use Rattle.overlaps.proofs.Plots.{logged-address, logged-row, logged-depth}
 use Rattle.row_writer.specs.Entries.{bytesIn, withField, rowFields, entryOf, entriesOf}
 use Rattle.row_writer.specs.Writes.{namesIn, numbersIn, RunWrites, fieldsIn, entriesIn}
 use Rattle.rows.proofs.Padded.{length-padded}
@@ -220,18 +222,18 @@ module _ (text t s log : List ℕ) (e : Extent) (row count : ℕ) (title : Name)
     seen : RegisterSeen text t e (visitAt (registersOf text t e row) i)
     seen = all-at noVisit i (registers-seen text t e row (w .charted .shaped .ready) (w .charted .low) (w .charted .sound)) below
 
-    logged-row : LogRow log i (visitAt (registersOf text t e row) i)
-    logged-row = w .charted .logs .each i below
+    own-row : LogRow log i (visitAt (registersOf text t e row) i)
+    own-row = w .charted .logs .each i below
 
     writing-ready : Ready text t e
     writing-ready = w .charted .shaped .ready
 
-    pub writing-cell : cellOf log (i * logWidth + 1) < definitionLimit
-    writing-cell = let z = logged-row .type in omega (arith, z, seen .seen .low, writing-ready .few)
+    own-steps : All StepFits (visitAt (registersOf text t e row) i .path)
+    own-steps = all-map step-fits (seen .seen .steps)
 
-    module _ {k : ℕ} (o : k ≡ cellOf log (i * logWidth + 1)) where
+    module _ {head k : ℕ} (o : head ≡ cellOf log (i * logWidth)) (m : (k ≡ headRow head) × (k < definitionLimit)) where
       same-type : k ≡ visitAt (registersOf text t e row) i .type
-      same-type = o ∙ logged-row .type
+      same-type = m .0 ∙ ap headRow o ∙ logged-row text t s log e row (w .charted) i below
 
       pub writing-row : k < e .rows
       writing-row = omega (arith, same-type, seen .seen .low)
@@ -239,7 +241,7 @@ module _ (text t s log : List ℕ) (e : Extent) (row count : ℕ) (title : Name)
       pub writing-back : {f1 l1 : List ℕ} {next : ℕ} → RunWrites f f1 l l1 first (fieldsIn text t e k) next → first ≤ next
       writing-back a = omega (arith, a .next)
 
-      pub writing-next : {r1 p1 f1 l1 : List ℕ} {next : ℕ} → p1 ≡ written p (i * pathRowWidth) (nameCell (bytesIn text title) ++ namesIn text log (i * logWidth + 3) nestLimit)
+      pub writing-next : {r1 p1 f1 l1 : List ℕ} {next : ℕ} → p1 ≡ written p (i * pathRowWidth) (nameCell (bytesIn text title) ++ namesIn text log (i * logWidth + 1) nestLimit)
           → RunWrites f f1 l l1 first (fieldsIn text t e k) next → r1 ≡ written r (i * registerRowWidth) (numbersIn t log i first (next - first))
           → Writing text t s log e row count title r₀ r1 p₀ p1 f₀ f1 l₀ l1 (i + 1) next
       writing-next {r1} {p1} {f1} {l1} {next} a b c =
@@ -256,8 +258,9 @@ module _ (text t s log : List ℕ) (e : Extent) (row count : ℕ) (title : Name)
           drop-cons (registersOf text t e row) i noVisit below ∙ ap (λ (n : ℕ). v ∷ drop n (registersOf text t e row)) (sym (one-more i)) in
           let rows : rowsLeft text t e row i ≡ x ∷ others = ap (entriesOf text table) left ∙ entries-more text table v (leftOf text t e row (i + 1)) in
           let own : componentIn t (v .type) ≡ definitionOf table (v .type) .component = ready-is-row text t e (v .type) writing-ready (seen .seen .low) .component in
-          let cells : r1 ≡ written r (i * registerRowWidth) (registerCells first x) = c ∙ ap (written r (i * registerRowWidth)) (log-numbers text log i v logged-row t table first (seen .exact) own number) in
-          let bytes : p1 ≡ written p (i * pathRowWidth) (pathCells name x) = a ∙ ap (written p (i * pathRowWidth)) (log-names text log i v logged-row table name) in
+          let cells : r1 ≡ written r (i * registerRowWidth) (registerCells first x) = c ∙ ap (written r (i * registerRowWidth)) (log-numbers text log i v own-row own-steps t table first
+          (logged-address text t s log e row (w .charted) i below) (logged-row text t s log e row (w .charted) i below) (logged-depth text t s log e row (w .charted) i below) own number) in
+          let bytes : p1 ≡ written p (i * pathRowWidth) (pathCells name x) = a ∙ ap (written p (i * pathRowWidth)) (log-names text log i v own-row own-steps table name) in
           record {
             charted = w .charted;
             whole = w .whole;
@@ -281,7 +284,7 @@ module _ (text t s log : List ℕ) (e : Extent) (row count : ℕ) (title : Name)
                 ∙ ap (λ (gs : List Field). written l (first * nameWidth) (labelRun gs ++ labelTable others)) same
                 ∙ ap (written l (first * nameWidth)) (sym (ap labelTable rows ∙ labels-more x others)) ∙ w .labels;
             as-registers = ap length c ∙ written-length r (i * registerRowWidth) (numbersIn t log i first (next - first)) ∙ w .as-registers;
-            as-paths = ap length a ∙ written-length p (i * pathRowWidth) (nameCell name ++ namesIn text log (i * logWidth + 3) nestLimit) ∙ w .as-paths;
+            as-paths = ap length a ∙ written-length p (i * pathRowWidth) (nameCell name ++ namesIn text log (i * logWidth + 1) nestLimit) ∙ w .as-paths;
             as-fields = run-fields b ∙ w .as-fields;
             as-labels = run-labels b ∙ w .as-labels;
           }

@@ -12,24 +12,25 @@ use Rattle.closing_rules.specs.Registers.{firstBit}
 use Rattle.rows.specs.Rows.{Field, Entry, nameCell, fieldRun, labelRun}
 use Rattle.sizes.specs.declared.Extent.{Extent}
 use Rattle.sizes.specs.Ready.{known}
-use Rattle.map_walk.specs.Runs.{logWidth}
+use Rattle.register_log.specs.Log.{logWidth, headAddress, headRow, headDepth, stepStart, stepEnd, stepIndex}
 use Rattle.map_walk.specs.Walks.{registersOf}
 use Rattle.row_writer.specs.Entries.{rowFields, widthsOf, entriesOf}
 
--- the names and the indices of `n` steps of the log, whose cells stand from an index on
+-- the names and the indices of `n` steps of the log, whose numbers stand from an index on
 unfoldable pub namesIn : List ℕ → List ℕ → ℕ → ℕ → List ℕ
 namesIn text log at zero = []
-namesIn text log at (suc n) = nameCell (bytesOf text (cellOf log at) (cellOf log (at + 1))) ++ namesIn text log (at + 3) n
+namesIn text log at (suc n) = nameCell (bytesOf text (stepStart (cellOf log at)) (stepEnd (cellOf log at))) ++ namesIn text log (at + 1) n
 
 unfoldable pub indicesIn : List ℕ → ℕ → ℕ → List ℕ
 indicesIn log at zero = []
-indicesIn log at (suc n) = cellOf log (at + 2) ∷ indicesIn log (at + 3) n
+indicesIn log at (suc n) = stepIndex (cellOf log at) ∷ indicesIn log (at + 1) n
 
 -- a register's numbers, from the log and from its type's row
 unfoldable pub numbersIn : List ℕ → List ℕ → ℕ → ℕ → ℕ → List ℕ
 numbersIn t log i first count =
-    let r = widthsOf (componentIn t (cellOf log (i * logWidth + 1))) in
-    cellOf log (i * logWidth) ∷ r .width ∷ r .access ∷ first ∷ count ∷ cellOf log (i * logWidth + 2) ∷ indicesIn log (i * logWidth + 3) nestLimit
+    let head = cellOf log (i * logWidth) in
+    let r = widthsOf (componentIn t (headRow head)) in
+    headAddress head ∷ r .width ∷ r .access ∷ first ∷ count ∷ headDepth head ∷ indicesIn log (i * logWidth + 1) nestLimit
 
 -- fields and labels from a field row on, and the next field row
 pub record RunWrites (fields fieldsAfter labels labelsAfter : List ℕ) (first : ℕ) (fs : List Field) (r : ℕ) : Type 0 where

@@ -11,11 +11,11 @@ ghost use mathlib.Core.Path.{_≡_};
 ghost use mathlib.Core.List.{[], _++_};
 ghost use Prim.Native.Nat.{_+_, _*_, _<_, _≤_};
 ghost use lib.ListN.{length, set};
-ghost use Rattle.basics.specs.Limits.{definitionLimit, nestLimit, registerLimit, fieldLimit, registerRowWidth, fieldRowWidth, pathRowWidth, indexBound, sumBound};
-ghost use Rattle.basics.specs.Slices.{cellOf, written};
+ghost use Rattle.basics.specs.Limits.{nestLimit, registerLimit, fieldLimit, registerRowWidth, fieldRowWidth, pathRowWidth, indexBound, sumBound};
+ghost use Rattle.basics.specs.Slices.{written};
 ghost use Rattle.cells.specs.Cells.{nameIn};
 ghost use Rattle.rows.specs.Rows.{nameCell, fieldCells, registerTable, pathTable, fieldTable, labelTable};
-ghost use Rattle.map_walk.specs.Runs.{logWidth};
+ghost use Rattle.register_log.specs.Log.{logWidth};
 ghost use Rattle.map_walk.specs.Walks.{Shaped, registersOf};
 ghost use Rattle.overlaps.specs.Charted.{Charted};
 ghost use Rattle.row_writer.specs.Entries.{bytesIn, withField, widthsOf};
@@ -49,8 +49,9 @@ fn write_steps(text: &[u8], log: &[u64], steps: usize, paths: &mut [u8], at: usi
 {
     let mut k = 0;
     while k < basics::NEST_LIMIT {
-        let start = basics::cell(log, steps + 3 * k) as usize;
-        let end = basics::cell(log, steps + (3 * k + 1)) as usize;
+        let step = basics::cell(log, steps + k);
+        let start = register_log::step_start(step);
+        let end = register_log::step_end(step);
         write_name(
             paths,
             at + k * basics::NAME_WIDTH,
@@ -63,7 +64,7 @@ fn write_steps(text: &[u8], log: &[u64], steps: usize, paths: &mut [u8], at: usi
 // Writes a path's row: the map's name, then the path of the log.
 fn write_path(text: &[u8], log: &[u64], i: usize, title: Name, paths: &mut [u8])
     requires { ⌜ i ≤ registerLimit ⌝ }
-    ensures { λ _. ⌜ now (paths .exit) ≡ written (now (paths .entry)) (i * pathRowWidth) (nameCell (bytesIn (now (text .entry)) title) ++ namesIn (now (text .entry)) (now (log .entry)) (i * logWidth + 3) nestLimit) ⌝ }
+    ensures { λ _. ⌜ now (paths .exit) ≡ written (now (paths .entry)) (i * pathRowWidth) (nameCell (bytesIn (now (text .entry)) title) ++ namesIn (now (text .entry)) (now (log .entry)) (i * logWidth + 1) nestLimit) ⌝ }
 {
     let at = i * basics::PATH_ROW_WIDTH;
     write_name(
@@ -74,7 +75,7 @@ fn write_path(text: &[u8], log: &[u64], i: usize, title: Name, paths: &mut [u8])
     write_steps(
         text,
         log,
-        i * map_walk::LOG_WIDTH + 3,
+        i * register_log::LOG_WIDTH + 1,
         paths,
         at + basics::NAME_WIDTH,
     );
@@ -87,8 +88,8 @@ fn write_indices(log: &[u64], steps: usize, registers: &mut [u64], at: usize)
 {
     let mut k = 0;
     while k < basics::NEST_LIMIT {
-        let index = basics::cell(log, steps + (3 * k + 2));
-        basics::put(registers, at + k, index);
+        let step = basics::cell(log, steps + k);
+        basics::put(registers, at + k, register_log::step_index(step));
         k += 1;
     }
 }
@@ -113,20 +114,23 @@ fn write_register(
     count: usize,
     registers: &mut [u64],
 )
-    requires { ⌜ (i ≤ registerLimit) × (cellOf (now log) (i * logWidth + 1) < definitionLimit) ⌝ }
+    requires { ⌜ i ≤ registerLimit ⌝ }
     ensures { λ _. ⌜ now (registers .exit) ≡ written (now (registers .entry)) (i * registerRowWidth) (numbersIn (now (cells .entry)) (now (log .entry)) i first count) ⌝ }
 {
-    let start = i * map_walk::LOG_WIDTH;
-    let row = basics::cell(log, start + 1) as usize;
+    let start = i * register_log::LOG_WIDTH;
+    let head = basics::cell(log, start);
+    let row = register_log::head_row(head);
+    let address = register_log::head_address(head);
+    let depth = register_log::head_depth(head);
     let register = register_of(cells::component_at(cells, row));
     let at = i * basics::REGISTER_ROW_WIDTH;
-    basics::put(registers, at, basics::cell(log, start));
+    basics::put(registers, at, address);
     basics::put(registers, at + 1, register.width);
     basics::put(registers, at + 2, register.access);
     basics::put(registers, at + 3, first as u64);
     basics::put(registers, at + 4, count as u64);
-    basics::put(registers, at + 5, basics::cell(log, start + 2));
-    write_indices(log, start + 3, registers, at + 6);
+    basics::put(registers, at + 5, depth as u64);
+    write_indices(log, start + 1, registers, at + 6);
 }
 
 // Writes a field's row.
@@ -230,7 +234,7 @@ pub fn write_rows(
     let mut i = 0;
     let mut first = 0;
     while i < count {
-        let row = basics::cell(log, i * map_walk::LOG_WIDTH + 1) as usize;
+        let row = register_log::head_row(basics::cell(log, i * register_log::LOG_WIDTH));
         write_path(text, log, i, title, paths);
         let next = write_run(text, cells, shapes, extent, row, fields, labels, first);
         write_register(cells, log, i, first, next - first, registers);

@@ -25,7 +25,7 @@ use Rattle.name_tree.specs.declared.Spot.{Spot}
 use Rattle.name_tree.specs.Tree.{isEntryNamed, someNamed, Linked, seek, Finds, grown}
 use Rattle.name_tree.proofs.Finding.{seek-finds}
 use Rattle.name_tree.proofs.Names.{same-own, bytes-short, entry-named, block-named}
-use Rattle.name_tree.proofs.InstanceName.{instance-own}
+use Rattle.parts.proofs.InstanceName.{instance-own}
 use Rattle.name_tree.proofs.Growing.{grown-length, grown-last, grown-other, grown-place, grown-row, grown-grows, grows-linked}
 use Rattle.scopes.specs.declared.Enclosing.{Enclosing}
 use Rattle.scopes.specs.Places.{mayHold}

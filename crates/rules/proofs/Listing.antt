@@ -26,7 +26,7 @@ use Rattle.syntax.proofs.Derive.{then-steps, Lists as Derived, lists-last, list
 use Rattle.basics.specs.Judged.{Judged, fault, fine}
 use Rattle.cells.specs.Cells.{instanceRoom, entryPlaces}
 use Rattle.cells.specs.Definitions.{Child, Definition}
-use Rattle.name_tree.proofs.InstanceName.{instance-named, begins-inside}
+use Rattle.parts.proofs.InstanceName.{instance-named, begins-inside}
 use Rattle.scopes.specs.declared.Scope.{Scope}
 use Rattle.scopes.specs.declared.ListJudged.the-variants as listJudged
 use Rattle.rules.specs.Judge.{judgeInstances}

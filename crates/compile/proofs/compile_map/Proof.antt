@@ -7,7 +7,7 @@ use mathlib.Core.Path.{subst}
 use Prim.Native.Nat.{ℕ}
 use lib.ListN.{length-replicate}
 use Rattle.recall.specs.Shelves.{recallSize}
-use Rattle.map_walk.specs.Runs.{logSize}
+use Rattle.register_log.specs.Log.{logSize}
 use Rattle.compile.proofs.compile_map.Statement.{statement}
 use Rattle.compile.proofs.compile_map.Tie as tie
 

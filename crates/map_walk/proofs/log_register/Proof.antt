@@ -1,4 +1,4 @@
--- Address, row, depth and steps, written one after another, are a row of the log.
+-- Head and steps, written one after another, are a row of the log.
 use Rattle.map_walk.proofs.Leaves.{register-put}
 use borrow.Author.Needs.{needs}
 use Rattle.map_walk.proofs.log_register.Statement.{statement}
@@ -9,11 +9,8 @@ log-register-spec =
     tie.close
     (tie.spec
     (λ c. search needs)  -- mul-at
+    (λ c κs. search needs)  -- head-of-requires
     (λ c κs. search needs)  -- put-requires
-    (λ c. search needs)  -- add-put
-    (λ c κs. search needs)  -- put-requires-2
-    (λ c. search needs)  -- add-put-2
-    (λ c κs. search needs)  -- put-requires-3
     (λ c. search needs)  -- add-log-trail
     (λ c κs. search needs)  -- log-trail-requires
     (λ c. search needs)  -- same-length

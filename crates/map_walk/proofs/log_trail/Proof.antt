@@ -2,7 +2,7 @@
 use mathlib.Core.Path.{_≡_}
 use Prim.Native.Nat.{_+_, _-_}
 use lib.ListN.{length, drop}
-use Rattle.map_walk.specs.Runs.{trailWidth}
+use Rattle.basics.specs.Limits.{nestLimit}
 use Rattle.basics.specs.Slices.{written}
 use Rattle.map_walk.proofs.Leaves.{steps-length, put-start, put-next, put-end}
 use borrow.Author.Needs.{needs}
@@ -14,7 +14,7 @@ abbrev Inv-loop : tie.InvT-loop
 Inv-loop log₀ at trail k₀ log k = (written log (at + k) (drop k (trail .steps)) ≡ written log₀ at (trail .steps)) × (length log ≡ length log₀)
 
 abbrev μ-loop : tie.MeasureT-loop
-μ-loop log₀ at trail k₀ log k = trailWidth - k
+μ-loop log₀ at trail k₀ log k = nestLimit - k
 
 pub log-trail-spec : {M : Type 1} → statement M
 log-trail-spec =

@@ -1,4 +1,4 @@
--- The place is the first number of the path's last step.
+-- The place is the start in the path's last step.
 use borrow.Author.Needs.{needs}
 use Rattle.overlaps.proofs.Plots.{place-read}
 use Rattle.overlaps.proofs.place_at.Statement.{statement}
@@ -9,9 +9,9 @@ place-at-spec =
     tie.close
     (tie.spec
     (λ c. search needs)  -- mul-start
-    (λ c. search needs)  -- add-cell
     (λ c κs. search needs)  -- cell-requires
-    (λ c. search needs)  -- mul-cell
-    (λ c. search needs)  -- add-cell-2
+    (λ c κs. search needs)  -- head-depth-requires
+    (λ c. search needs)  -- add-cell
     (λ c κs. search needs)  -- cell-requires-2
+    (λ c κs. search needs)  -- step-start-requires
     (λ c. search place-read))  -- returns

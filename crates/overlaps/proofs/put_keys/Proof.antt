@@ -22,6 +22,7 @@ put-keys-spec =
     (λ c. search (needs, filling-start))  -- loop-holds
     (λ c. search needs)  -- mul-cell
     (λ c κs. search needs)  -- cell-requires
+    (λ c κs. search needs)  -- head-address-requires
     (λ c. search (needs, product-fits))  -- mul-keys
     (λ c. search (needs, key-fits))  -- add-keys
     (λ c. search needs)  -- mul-keys-2

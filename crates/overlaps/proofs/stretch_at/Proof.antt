@@ -1,6 +1,6 @@
 -- The span is that of the register's plot, with the accesses of the fields of its type.
 use borrow.Author.Needs.{needs}
-use Rattle.overlaps.proofs.Plots.{index-few, row-few, plot-low, plot-sum, span-read}
+use Rattle.overlaps.proofs.Plots.{index-few, plot-low, plot-sum, span-read}
 use Rattle.overlaps.proofs.stretch_at.Statement.{statement}
 use Rattle.overlaps.proofs.stretch_at.Tie as tie
 
@@ -8,7 +8,7 @@ pub stretch-at-spec : {M : Type 1} → statement M
 stretch-at-spec =
     tie.close
     (tie.spec
-    (λ c κs. search (needs, index-few, row-few))  -- plot-at-requires
+    (λ c κs. search (needs, index-few))  -- plot-at-requires
     (λ c κs. search needs)  -- access-code-requires
     (λ c κs. search (needs, plot-low))  -- has-access-requires
     (λ c κs. search needs)  -- access-code-requires-2

@@ -8,7 +8,7 @@ pub child-at-spec : {M : Type 1} → statement M
 child-at-spec =
     tie.close
     (tie.spec
-    (λ c κs. search needs)  -- is-short-requires
+    (λ c κs. search needs)  -- is-surely-short-requires
     (λ c κs. search needs)  -- child-at-requires
     (λ c. search needs)  -- returns
     (λ c κs. search needs)  -- cell-requires

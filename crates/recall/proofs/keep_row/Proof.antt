@@ -1,12 +1,12 @@
--- After each instance the shelves hold what the text gives.
+-- Keeping the instances from this one on comes to the same as keeping all of the row's.
 use borrow.Author.Needs.{needs}
 use Prim.Native.Nat.{_-_}
-use Rattle.recall.proofs.Keeping.{keeps-none, Ongoing, ongoing-start, ongoing-next}
+use Rattle.recall.proofs.Kept.{CellsLeft, cells-start, cells-next, cells-end, cells-none}
 use Rattle.recall.proofs.keep_row.Statement.{statement}
 use Rattle.recall.proofs.keep_row.Tie as tie
 
 abbrev Inv-loop : tie.InvT-loop
-Inv-loop text cells shapes₀ row span i₀ shapes i = Ongoing text shapes₀ shapes
+Inv-loop text cells shapes₀ row span i₀ shapes i = CellsLeft text cells shapes₀ shapes (span .from) i (span .to)
 
 abbrev μ-loop : tie.MeasureT-loop
 μ-loop text cells shapes₀ row span i₀ shapes i = span .to - i
@@ -17,12 +17,12 @@ keep-row-spec =
     (tie.spec
     Inv-loop
     μ-loop
-    (λ c. search keeps-none)  -- returns
+    (λ c. search cells-none)  -- returns
     (λ c κs. search needs)  -- instances-of-requires
-    (λ c. search ongoing-start)  -- loop-holds
+    (λ c. cells-start _ _ _ _ (c .instances-of .ensures))  -- loop-holds
     (λ c κs. search needs)  -- keep-at-requires
     (λ c. search needs)  -- add-i
     (λ c. search needs)  -- loop-less
-    (λ c. search ongoing-next)  -- loop-again
+    (λ c. search cells-next)  -- loop-again
     (λ c. search needs)  -- same-length
-    (λ c. search needs))  -- returns-2
+    (λ c. search cells-end))  -- returns-2

@@ -2,7 +2,7 @@
 use borrow.Author.Needs.{needs}
 use native.Mathlib.Omega.{arith}
 use Prim.Native.Nat.{_-_}
-use Rattle.row_writer.proofs.Tables.{Writing, writing-start, writing-first, writing-low, writing-steps, writing-falls, writing-cell, writing-row, writing-back, writing-next, end-registers, end-paths, end-fields, end-labels}
+use Rattle.row_writer.proofs.Tables.{Writing, writing-start, writing-first, writing-low, writing-steps, writing-falls, writing-row, writing-back, writing-next, end-registers, end-paths, end-fields, end-labels}
 use Rattle.row_writer.proofs.write_rows.Statement.{statement}
 use Rattle.row_writer.proofs.write_rows.Tie as tie
 
@@ -33,41 +33,42 @@ write-rows-spec =
     writing-start _ _ _ _ _ _ _ _ _ _ _ _ (at-start .pre .0) (at-start .pre .1))
     -- mul-cell
     (λ c. record { fits = omega (arith, writing-low _ _ _ _ _ _ _ _ (c .before .loop .inv) (c .loop-test .taken)) })
-    -- add-cell
-    (λ c. record { fits = omega (arith, writing-low _ _ _ _ _ _ _ _ (c .before .loop .inv) (c .loop-test .taken)) })
     (λ c κs. search needs)  -- cell-requires
+    (λ c κs. search needs)  -- head-row-requires
     -- write-path-requires
-    (λ c κs. writing-low _ _ _ _ _ _ _ _ (c .before .before .before .loop .inv) (c .before .before .loop-test .taken))
+    (λ c κs. writing-low _ _ _ _ _ _ _ _ (c .before .before .before .before .loop .inv) (c .before .before .before .loop-test .taken))
     -- write-run-requires
     (λ c κs.
     let at-write-path = c .before .before .before .before in
-    let at-cell = at-write-path .before .before in
+    let at-head-row = at-write-path .before .before in
+    let at-cell = at-head-row .before in
     let at-loop-test = at-cell .before in
     let at-loop = at-loop-test .before in
-    (at-loop .loop .inv .charted .shaped, writing-row _ _ _ _ _ _ _ _ (at-loop .loop .inv) (at-loop-test .loop-test .taken) (at-cell .cell .ensures), writing-first _ _ _ _ _ _ _ _ (at-loop .loop .inv)))
+    (at-loop .loop .inv .charted .shaped, writing-row _ _ _ _ _ _ _ _ (at-loop .loop .inv) (at-loop-test .loop-test .taken) (at-cell .cell .ensures) (at-head-row .head-row .ensures), writing-first _ _ _ _ _ _ _ _ (at-loop .loop .inv)))
     -- sub-write-register
     (λ c.
     let at-write-run = c .before .before .before .before in
     let at-paths = at-write-run .before .before .before .before in
-    let at-cell = at-paths .before .before .before in
+    let at-head-row = at-paths .before .before .before in
+    let at-cell = at-head-row .before in
     let at-loop-test = at-cell .before in
     let at-loop = at-loop-test .before in
-    writing-back _ _ _ _ _ _ _ _ (at-loop .loop .inv) (at-loop-test .loop-test .taken) (at-cell .cell .ensures) (at-write-run .write-run .ensures))
+    writing-back _ _ _ _ _ _ _ _ (at-loop .loop .inv) (at-loop-test .loop-test .taken) (at-cell .cell .ensures) (at-head-row .head-row .ensures) (at-write-run .write-run .ensures))
     -- write-register-requires
     (λ c κs.
     let at-fields = c .before .before .before .before in
     let at-write-run-arg = at-fields .before .before .before in
     let at-write-path-arg = at-write-run-arg .before .before .before .before in
-    let at-loop-test = at-write-path-arg .before .before in
+    let at-loop-test = at-write-path-arg .before .before .before in
     let at-loop = at-loop-test .before in
-    (writing-low _ _ _ _ _ _ _ _ (at-loop .loop .inv) (at-loop-test .loop-test .taken), writing-cell _ _ _ _ _ _ _ _ (at-loop .loop .inv) (at-loop-test .loop-test .taken)))
+    writing-low _ _ _ _ _ _ _ _ (at-loop .loop .inv) (at-loop-test .loop-test .taken))
     -- add-i
     (λ c.
     let at-write-register-arg = c .before .before .before in
     let at-fields = at-write-register-arg .before .before .before .before in
     let at-write-run-arg = at-fields .before .before .before in
     let at-write-path-arg = at-write-run-arg .before .before .before .before in
-    let at-loop-test = at-write-path-arg .before .before in
+    let at-loop-test = at-write-path-arg .before .before .before in
     let at-loop = at-loop-test .before in
     record { fits = writing-steps _ _ _ _ _ _ _ _ (at-loop .loop .inv) (at-loop-test .loop-test .taken) })
     -- loop-less
@@ -76,7 +77,7 @@ write-rows-spec =
     let at-fields = at-write-register-arg .before .before .before .before in
     let at-write-run-arg = at-fields .before .before .before in
     let at-write-path-arg = at-write-run-arg .before .before .before .before in
-    let at-loop-test = at-write-path-arg .before .before in
+    let at-loop-test = at-write-path-arg .before .before .before in
     let at-loop = at-loop-test .before in
     writing-falls _ _ _ _ _ _ _ _ (at-loop .loop .inv) (at-loop-test .loop-test .taken))
     -- loop-again
@@ -86,10 +87,11 @@ write-rows-spec =
     let at-write-run = at-labels .before .before .before in
     let at-paths = at-write-run .before .before .before .before in
     let at-write-path = at-paths .before in
-    let at-cell = at-write-path .before .before in
+    let at-head-row = at-write-path .before .before in
+    let at-cell = at-head-row .before in
     let at-loop-test = at-cell .before in
     let at-loop = at-loop-test .before in
-    writing-next _ _ _ _ _ _ _ _ (at-loop .loop .inv) (at-loop-test .loop-test .taken) (at-cell .cell .ensures) (at-write-path .write-path .ensures) (at-write-run .write-run .ensures) (at-write-register .write-register .ensures))
+    writing-next _ _ _ _ _ _ _ _ (at-loop .loop .inv) (at-loop-test .loop-test .taken) (at-cell .cell .ensures) (at-head-row .head-row .ensures) (at-write-path .write-path .ensures) (at-write-run .write-run .ensures) (at-write-register .write-register .ensures))
     (λ c. search needs)  -- same-length
     (λ c. search needs)  -- same-length-2
     (λ c. search needs)  -- same-length-3

@@ -1,25 +1,26 @@
--- An instance begins with its name, and stands where its name does.
+-- An instance begins with its name, which is short, and stands where its name does.
 use mathlib.Core.Bool.{Bool, true, false}
 use mathlib.Core.Path.{_≡_, refl}
 use mathlib.Core.List.{List}
-use Prim.Native.Nat.{ℕ, _≤_}
+use Prim.Native.Nat.{ℕ, _+_, _≤_}
 use native.Mathlib.Omega.{arith}
 use lib.ListN.{length}
 use Rattle.basics.specs.Choice.{if_then_else_}
+use Rattle.basics.specs.Limits.{nameLimit}
 use Rattle.lex.specs.Token.{tokenAt}
 use Rattle.lex.specs.declared.Word.{Word}
 use Rattle.lex.specs.declared.Word.the-variants as word
 use Rattle.lex.proofs.Bounds.{token-inside, token-within}
-use Rattle.lex.proofs.Own.{name-own}
+use Rattle.lex.proofs.Own.{name-own, name-short}
 use Rattle.expressions.proofs.Readings.{HoldsRead, holds-ok, holds-stop, holds-of, holds-mapped, holds-then}
 use Rattle.parts.specs.Reading.{Parsed, ok, stop, andThen, mapped}
 use Rattle.parts.specs.Words.{isName}
 use Rattle.parts.specs.Parts.{nameAt, arrayAt, suffixAt, bare, setSuffix, withSuffix, bareAt, instanceAt}
 use Rattle.parts.specs.declared.Name.{Name}
 use Rattle.parts.specs.declared.Suffix.{Suffix}
 use Rattle.parts.specs.declared.SuffixKind.{SuffixKind}
 use Rattle.parts.specs.declared.SuffixKind.the-variants.{Reset, Address, Stride, Alignment}
 use Rattle.parts.specs.declared.Instance.{Instance}
 
 -- a name that stands at the cursor
 pub record Begins (text : List ℕ) (at : ℕ) (name : Name) : Type 0 where
@@ -95,6 +96,12 @@ begins-inside text at {name} b =
     let e = token-inside text at (no-end (tokenAt text at .word) (k .word-is)) in
     let w = token-within text at (omega (arith, e)) in
     (rw (k .starts, k .ends) (w .ordered), rw (k .ends) (w .inside))
+
+-- and it is short
+pub instance-short : (text : List ℕ) (at : ℕ) {i : Instance} {n : ℕ} → instanceAt text at ≡ ok i n → i .name .end ≤ i .name .start + nameLimit
+instance-short text at e =
+    let k = is-token text at (instance-named text at e .reads) in
+    rw (k .starts, k .ends) (name-short text at (k .word-is))
 
 -- read at its name, an instance is the same
 pub instance-own : (text : List ℕ) (at : ℕ) {i : Instance} {n : ℕ} → instanceAt text at ≡ ok i n → instanceAt text (i .name .start) ≡ ok i n
