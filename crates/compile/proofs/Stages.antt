@@ -37,9 +37,9 @@ use Rattle.sizes.specs.declared.Extent.{Extent}
 use Rattle.sizes.specs.Ready.{known, Ready}
 use Rattle.sizes.specs.Shapes.{shapeCells, allShapes}
 use Rattle.sizes.proofs.Laws.{shapes-stored}
-use Rattle.recall.specs.Shelves.{recallSize, Shelving}
+use Rattle.recall.specs.Shelves.{recallSize}
 use Rattle.recall.specs.Kept.{keptLong}
-use Rattle.recall.proofs.Keeping.{shapes-stay}
+use Rattle.recall.proofs.Keeping.{Shelving, shapes-stay}
 use Rattle.recall.proofs.Kept.{long-kept}
 use Rattle.map_rules.specs.Whole.{tooMany, tooClose, misplaced, overlapping, mapShapes, mapVisits, mapFault}
 use Rattle.map_walk.specs.declared.Counts.{Counts}

@@ -1,19 +1,19 @@
 -- A name stands at its own place: read there, it is the same token. It is short.
-use mathlib.Core.Bool.{Bool, true, false}
+use mathlib.Core.Bool.{true, false}
 use mathlib.Core.Path.{_≡_, refl, sym, ap, _∙_}
 use mathlib.Core.List.{List, [], _∷_}
 use Prim.Native.Nat.{ℕ, _+_, _-_, _≤_}
 use native.Mathlib.Omega.{arith}
 use lib.Dec.{ltb, eqb}
-use lib.ListN.{length, take, drop}
-use borrow.Author.Tests.{ne-eqb, ltb-false}
-use Rattle.basics.specs.Choice.{if_then_else_}
-use Rattle.chars.specs.Ascii.{isWithin, isBlank, isLetter, isNameByte, isNumberByte, isDigit}
+use lib.ListN.{length, take, drop, length-drop}
+use lib.Seq.{length-take-le}
+use borrow.Author.Tests.{ne-eqb}
+use Rattle.chars.specs.Ascii.{isWithin, isBlank, isLetter, isNumberByte, isDigit}
 use Rattle.chars.specs.Run.{run}
 use Rattle.chars.specs.declared.Radix.the-variants.{Decimal}
 use Rattle.chars.proofs.Laws.{differ, either}
 use Rattle.basics.specs.Limits.{nameLimit, stringLimit}
-use Rattle.vocabulary.specs.Vocabulary.{keywordOf, markOf}
+use Rattle.vocabulary.specs.Vocabulary.{markOf}
 use Rattle.vocabulary.specs.declared.MarkLookup.{MarkLookup}
 use Rattle.vocabulary.specs.declared.MarkLookup.the-variants.{IsMark, NoMark}
 use Rattle.numbers.specs.Number.{numberOf}
@@ -21,14 +21,15 @@ use Rattle.numbers.specs.declared.Numeral.{Numeral}
 use Rattle.numbers.specs.declared.Numeral.the-variants as numeral
 use Rattle.lex.specs.declared.Next.{Next}
 use Rattle.lex.specs.declared.Next.the-variants.{At, Unclosed}
-use Rattle.lex.specs.declared.Cause.the-variants as cause
 use Rattle.lex.specs.declared.Word.{Word}
 use Rattle.lex.specs.declared.Word.the-variants as word
 use Rattle.lex.specs.declared.Token.{Token}
 use Rattle.lex.specs.Blank.{blanks, nextFrom}
 use Rattle.lex.specs.Quote.{closing}
-use Rattle.lex.specs.Token.{token, keywordWord, nameWord, nameToken, numberWord, numberToken, stringTo, stringToken, longer, markWord, markToken, tokenFrom, tokenPast, tokenAt}
-use Rattle.lex.proofs.Bounds.{from-lies}
+use Rattle.lex.specs.Token.{numberWord, numberToken, stringTo, stringToken, longer, markWord, markToken, tokenFrom, tokenPast, tokenAt}
+use Rattle.lex.specs.Spelt.{tokenBytes, Named}
+use Rattle.lex.proofs.Bounds.{from-lies, token-inside}
+use Rattle.lex.proofs.Bytes.{token-spelt}
 use Rattle.lex.proofs.Scan.{blanks-word}
 
 -- what is no letter is another byte
@@ -79,31 +80,14 @@ name-own t at = by (nextFrom t at)
     by (At i) e = ap (λ (p : ℕ). tokenPast t (nextFrom t p)) (from-lies i (drop i t) .starts) ∙ ap (tokenPast t) (here t i e)
     by (Unclosed o) e = absurd (let z : _≡_ {A = ℕ} 0 1 = cc in omega arith)
 
--- a name is short: "at most 31 bytes"
-long-other : (n : List ℕ) → nameWord n ≡ word.Name → length n ≤ nameLimit
-unfolding nameWord
-long-other n = by (ltb nameLimit (length n)) refl
-  where
-    by : (b : Bool) → ltb nameLimit (length n) ≡ b → (if b then word.Bad cause.Malformed else keywordWord (keywordOf n)) ≡ word.Name → length n ≤ nameLimit
-    by true h e = absurd (let z : _≡_ {A = ℕ} 0 1 = cc in omega arith)
-    by false h e = ltb-false nameLimit (length n) h
+-- a name is not the end, and it is short: "at most 31 bytes"
+pub no-end : (w : Word) → w ≡ word.Name → w ≡ word.End → ⊥
+no-end w e f = let z : _≡_ {A = ℕ} 0 1 = cc in omega arith
 
-abbrev Short : Token → Type 0
-Short k = k .word ≡ word.Name → k .end ≤ k .start + nameLimit
-
-short-from : (p : ℕ) (s : List ℕ) → tokenFrom p s .word ≡ word.Name → tokenFrom p s .end ≤ tokenFrom p s .start + nameLimit
-unfolding tokenFrom nameToken numberToken stringToken markToken
-short-from p [] = λ e. absurd (let z : _≡_ {A = ℕ} 0 1 = cc in omega arith)
-short-from p (b ∷ s) =
-    either Short (isLetter b) (λ _ e. omega (arith, long-other (run isNameByte (b ∷ s)) e))
-    (λ _. either Short (isDigit Decimal b) (λ _ e. number-other (numberOf (run isNumberByte (b ∷ s))) e)
-    (λ _. either Short (eqb b 34) (λ _ e. string-other p _ (closing p 34 (p + 1) s) e)
-    (λ _ e. mark-other p (longer (markOf (take 2 (b ∷ s))) (markOf (take 1 (b ∷ s)))) e)))
-
-pub name-short : (t : List ℕ) (at : ℕ) → tokenAt t at .word ≡ word.Name → tokenAt t at .end ≤ tokenAt t at .start + nameLimit
-unfolding tokenAt
-name-short t at = by (nextFrom t at)
-  where
-    by : (x : Next) → tokenPast t x .word ≡ word.Name → tokenPast t x .end ≤ tokenPast t x .start + nameLimit
-    by (At i) e = short-from i (drop i t) e
-    by (Unclosed o) e = absurd (let z : _≡_ {A = ℕ} 0 1 = cc in omega arith)
+pub name-within : (t : List ℕ) (at : ℕ) → tokenAt t at .word ≡ word.Name → tokenAt t at .end ≤ tokenAt t at .start + nameLimit
+name-within t at e =
+    let k : Token = tokenAt t at in
+    let i = token-inside t at (no-end (k .word) e) in
+    let s : Named (tokenBytes t k) = rw e at (token-spelt t at) in
+    let n : length (tokenBytes t k) ≡ k .end - k .start = length-take-le (k .end - k .start) (drop (k .start) t) (simp length-drop (omega (arith, i))) in
+    omega (arith, s .limit, n)

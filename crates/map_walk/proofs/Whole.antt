@@ -21,7 +21,7 @@ use Rattle.basics.specs.Limits.{nestLimit, addressEnd}
 use Rattle.map_rules.specs.Visits.{Visit}
 use Rattle.map_rules.specs.Whole.{isRegisterVisit, offence, tooMany, tooClose, misplaced}
 use Rattle.map_walk.specs.declared.Tally.{Tally}
-use Rattle.map_walk.specs.Runs.{nothingTallied, registersWith, fieldsWith, isTooMany, tallied, run, stepCells, logRow, loggedOne, logged}
+use Rattle.map_walk.specs.Runs.{nothingTallied, registersWith, fieldsWith, isTooMany, tallied, run, stepNumbers, logRow, loggedOne, logged}
 use Rattle.map_rules.specs.Whole.{registersAmong, fieldsAmong}
 use Rattle.map_walk.specs.Walks.{LogRow, visitAt, Logs}
 use Rattle.map_walk.proofs.Runs.{run-step, run-none, logged-step}
@@ -104,7 +104,7 @@ run-sums table shapes t (v ∷ vs) e =
 -- the log
 row-length : (v : Visit) → length (logRow v) ≡ logWidth
 unfolding logRow
-row-length v = omega (arith, length-padded nestLimit (stepCells (v .path)))
+row-length v = omega (arith, length-padded nestLimit (stepNumbers (v .path)))
 
 -- how many registers there are with an element
 counted : (table : List Definition) (shapes : List Shape) (t : Tally) (v : Visit) {b : Bool} → isRegisterVisit table v ≡ b → tallied table shapes t v .registers ≡ (if b then suc (t .registers) else t .registers)

@@ -1,6 +1,6 @@
 -- One run over a map's elements, as the code makes it: 18 ends it, the first 19 and the first 20 are kept, and registers are logged.
 use mathlib.Core.Bool.{Bool, _||_}
-use mathlib.Core.List.{List, [], _∷_}
+use mathlib.Core.List.{List, [], _∷_, map}
 use Prim.Native.Nat.{ℕ, suc, _+_, _*_}
 use lib.Dec.{ltb}
 use lib.ListN.{length}
@@ -48,17 +48,16 @@ unfoldable pub run : List Definition → List Shape → Tally → List Visit →
 run table shapes t [] = fine t
 run table shapes t (v ∷ vs) = unless (isTooMany table t v) 18 (v .name .start) (run table shapes (tallied table shapes t v) vs)
 
--- a path in the log: a number for each step
+-- a step in the log, and the steps of a path
 abbrev pub stepNumber : PathStep → ℕ
 stepNumber s = stepOf (s .name .start) (s .name .end) (indexCode (s .index))
 
-unfoldable pub stepCells : List PathStep → List ℕ
-stepCells [] = []
-stepCells (s ∷ path) = stepNumber s ∷ stepCells path
+abbrev pub stepNumbers : List PathStep → List ℕ
+stepNumbers path = map stepNumber path
 
 -- a register in the log: its head, with its address cut at the cap, its type and the length of its path; and its path, at most 8 steps
 unfoldable pub logRow : Visit → List ℕ
-logRow v = headOf (cut (v .address .0)) (v .type) (length (v .path)) ∷ padded nestLimit (stepCells (v .path))
+logRow v = headOf (cut (v .address .0)) (v .type) (length (v .path)) ∷ padded nestLimit (stepNumbers (v .path))
 
 -- the log with an element: a register is written into the row of its number
 abbrev pub loggedOne : List Definition → List ℕ → Tally → Visit → List ℕ

@@ -41,7 +41,7 @@ use Rattle.map_walk.specs.declared.Surveyed.the-variants as surveyed
 use Rattle.map_walk.specs.declared.Walked.{Walked}
 use Rattle.map_walk.specs.declared.Walked.the-variants as walked
 use Rattle.rows.specs.Rows.{padded, indexCode}
-use Rattle.map_walk.specs.Runs.{nothingTallied, stepCells, run, logged}
+use Rattle.map_walk.specs.Runs.{nothingTallied, stepNumbers, run, logged}
 
 -- cells that hold definitions, with their shapes, and with long instances on the shelves
 pub record Shaped (text t s : List ℕ) (e : Extent) : Type 0 where
@@ -63,7 +63,7 @@ pub record Small (t : Tally) : Type 0 where
 -- a trail holds a path
 pub record Trails (trail : Trail) (path : List PathStep) : Type 0 where
   pub depth : trail .depth ≡ length path
-  pub steps : trail .steps ≡ padded nestLimit (stepCells path)
+  pub steps : trail .steps ≡ padded nestLimit (stepNumbers path)
 
 -- the log and the answer after these elements: 18 at one of them, or the counts
 pub data Walks (table : List Definition) (shapes : List Shape) (before after : List ℕ) (t : Tally) (vs : List Visit) : Walked → Type 0 where
@@ -162,7 +162,7 @@ pub record MapWalks (text t before after : List ℕ) (e : Extent) (row : ℕ) (r
 -- a register in a row of the log
 pub record LogRow (log : List ℕ) (i : ℕ) (v : Visit) : Type 0 where
   pub head : cellOf log (i * logWidth) ≡ headOf (cut (v .address .0)) (v .type) (length (v .path))
-  pub steps : (k : ℕ) → k < nestLimit → cellOf log (i * logWidth + 1 + k) ≡ cellOf (padded nestLimit (stepCells (v .path))) k
+  pub steps : (k : ℕ) → k < nestLimit → cellOf log (i * logWidth + 1 + k) ≡ cellOf (padded nestLimit (stepNumbers (v .path))) k
 
 abbrev pub noVisit : Visit
 noVisit = record { path = []; name = record { start = 0; end = 0 }; type = 0; address = bottom; short = false }

@@ -12,7 +12,7 @@ use lib.Pow.{pow-pos, pow-mono}
 use borrow.Author.Tests.{ltb-true, ltb-false, lt-ltb}
 use Rattle.chars.proofs.Laws.{and-left, and-right, and-both}
 use Rattle.model.specs.Model.{fits, Words}
-use Rattle.model.proofs.Tests.{true-false}
+use Rattle.chars.proofs.Laws.{differ}
 
 module _ (n : ℕ) (m : List ℕ) (v : ℕ) (s : List ℕ) where
   pub fits-first : fits (n ∷ m) (v ∷ s) ≡ true → v < 2 ^ n
@@ -31,14 +31,14 @@ module _ (n : ℕ) (m : List ℕ) (v : ℕ) (s : List ℕ) where
 pub fits-long : (m : List ℕ) (s : List ℕ) → fits m s ≡ true → length m ≤ length s
 unfolding fits
 fits-long [] s h = zero-le
-fits-long (n ∷ m) [] h = absurd (true-false (sym h))
+fits-long (n ∷ m) [] h = differ (sym h)
 fits-long (n ∷ m) (v ∷ s) h = suc-le-suc (fits-long m s (fits-rest n m v s h))
 
 -- and each is below its bound
 pub fits-at : (m : List ℕ) (s : List ℕ) → fits m s ≡ true → (f : ℕ) → f < length m → getD s f 0 < 2 ^ getD m f 0
 unfolding fits
 fits-at [] s h f k = absurd (not-suc-le-zero k)
-fits-at (n ∷ m) [] h f k = absurd (true-false (sym h))
+fits-at (n ∷ m) [] h f k = differ (sym h)
 fits-at (n ∷ m) (v ∷ s) h zero k = fits-first n m v s h
 fits-at (n ∷ m) (v ∷ s) h (suc f) k = fits-at m s (fits-rest n m v s h) f (le-of-suc-le-suc k)
 

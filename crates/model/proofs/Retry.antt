@@ -30,7 +30,8 @@ use Rattle.model.specs.Model.{Device, size, fits, Fitting, reaches, part
 use Rattle.model.specs.Lists.{actionFrom, action, Stored, Shown}
 use Rattle.model.specs.Repeats.{changedByReading, invertedBy, readsBit, repeatsBit, allBelow, repeats, Alone}
 use Rattle.model.specs.Suited.{Suited}
-use Rattle.model.proofs.Tests.{true-false, not-both, not-second}
+use Rattle.chars.proofs.Laws.{differ}
+use Rattle.model.proofs.Tests.{not-both, not-second}
 use Rattle.model.proofs.Fits.{zeros-fit, zeros-words}
 use Rattle.model.proofs.Under.{under, bit-under, under-under, under-ext, under-kept, storeOf, storeOf-fitting, storeOf-bit}
 use Rattle.model.proofs.Demand.{after-under, fits-after, after-bit}
@@ -81,8 +82,8 @@ stored-shown d ok f i p k h e =
 -- ---- a write made twice
 
 pub not-itself : (b : Bool) → b ≡ not b → ⊥
-not-itself true e = true-false e
-not-itself false e = true-false (sym e)
+not-itself true e = differ e
+not-itself false e = differ (sym e)
 
 -- a test that cannot pass
 pub fails : (b : Bool) → (b ≡ true → ⊥) → b ≡ false
@@ -126,7 +127,7 @@ by-inverted v false e = ap (λ (n : ℕ). writeAction n false) (eqb-true (v .onw
 
 -- a bit that is inverted only where the tests g and v pass
 pub again-lets : (g v : Bool) (t : Action) → (t ≡ Inverted → v ≡ true) → not (g && v) ≡ true → (if g then t else Kept) ≡ Inverted → ⊥
-again-lets true v t h r e = true-false (sym (h e) ∙ not-second true v r refl)
+again-lets true v t h r e = differ (sym (h e) ∙ not-second true v r refl)
 again-lets false v t h r e = let z : _≡_ {A = ℕ} 0 1 = cc in omega arith
 
 module _ (d : Device) (ok : Suited d) (a : Offset) (w x : ℕ) (yes : answered d (Write a w x) ≡ true) where
@@ -230,9 +231,9 @@ all-cleared Inverted e = e
 
 kept-only : (t : Action) → apply t false ≡ false → isCleared t ≡ false → t ≡ Kept
 kept-only Kept e q = refl
-kept-only Cleared e q = absurd (true-false q)
-kept-only Set e q = absurd (true-false e)
-kept-only Inverted e q = absurd (true-false e)
+kept-only Cleared e q = differ q
+kept-only Set e q = differ e
+kept-only Inverted e q = differ e
 
 -- a read that the criterion lets be made again changes no stored bit
 pub read-keeps-all : (d : Device) → Suited d → (a : Offset) (w : ℕ) → repeats (d .views) (Read a w) ≡ true → (f i : ℕ) → Stored (d .sizes) f i
@@ -248,8 +249,8 @@ read-keeps-all d ok a w r f i p =
     by k false b e q n u = refl
     by k true false e q n u = read-kept (viewIn (d .views) k .field .values) q
     by k true true e q n u =
-        absurd (true-false (not-second (isReadable (viewIn (d .views) k .field .values) && true) true u
-        (ap (λ (z : Bool). z && true) (ok .each k n .usable q))))
+        differ (not-second (isReadable (viewIn (d .views) k .field .values) && true) true u
+        (ap (λ (z : Bool). z && true) (ok .each k n .usable q)))
 
 -- whatever else a store holds: a step that acts on the stored bits as the read does, from stores that have any bits
 module _ (d : Device) (ok : Suited d) (a : Offset) (w : ℕ) (step : List ℕ → List ℕ) (Good : List ℕ → Type 0)

@@ -19,7 +19,7 @@ use Rattle.model.specs.Repeats.{changedByReading}
 use Rattle.model.specs.Suited.{Suited}
 use Rattle.model.proofs.Fits.{fits-at, fits-made}
 use Rattle.model.proofs.Retry.{fails}
-use Rattle.model.proofs.Tests.{true-false}
+use Rattle.chars.proofs.Laws.{differ}
 
 -- ---- 12
 
@@ -29,7 +29,7 @@ has-effect v e = by (eqb (v .onread) (readCode onread.Rclr)) (eqb (v .onread) (r
     by : (p q : Bool) → eqb (v .onread) (readCode onread.Rclr) ≡ p → eqb (v .onread) (readCode onread.Rset) ≡ q → p || q ≡ true → ltb 0 (v .onread) ≡ true
     by true q h k z = lt-ltb 0 (v .onread) (omega (arith, eqb-true (v .onread) (readCode onread.Rclr) h))
     by false true h k z = lt-ltb 0 (v .onread) (omega (arith, eqb-true (v .onread) (readCode onread.Rset) k))
-    by false false h k z = absurd (true-false (sym z))
+    by false false h k z = differ (sym z)
 
 -- rule 12 of rows gives what reads ask of a view
 pub usable-by-12 : (v : FieldType) → fields.hasUnusableEffect v ≡ false → changedByReading v ≡ true → fields.isReadable v ≡ true
@@ -68,7 +68,7 @@ rows-made (c ∷ cs) s h =
 
 same-test : (p q : Bool) → (p ≡ true → q ≡ true) → (q ≡ true → p ≡ true) → p ≡ q
 same-test true q f g = sym (f refl)
-same-test false q f g = sym (fails q (λ e. true-false (sym (g e))))
+same-test false q f g = sym (fails q (λ e. differ (sym (g e))))
 
 -- with a store that is long enough, a loop over all field rows, aliases too, judges the same
 pub rows-fit : (d : Device) → Suited d → Covered d → (s : List ℕ) → length (d .sizes) ≤ length s → rowsFit (d .views) s ≡ fits (d .sizes) s

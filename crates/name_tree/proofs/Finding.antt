@@ -9,8 +9,8 @@ use borrow.Author.Tests.{eqb-true, eqb-false, leb-true, leb-false}
 use Rattle.basics.specs.Choice.{if_then_else_}
 use Rattle.basics.specs.Slices.{cellOf}
 use Rattle.chars.proofs.Laws.{differ}
-use Rattle.name_tree.specs.declared.Spot.{Spot}
-use Rattle.name_tree.specs.Tree.{goesRight, isEntryNamed, below, Meets, meets-here, meets-below, Leads, leads-root, leads-below, seekFrom, seek, Finds}
+use Rattle.name_tree.specs.Tree.{goesRight, isEntryNamed, below, Meets, meets-here, meets-below, seekFrom, seek}
+use Rattle.name_tree.proofs.Found.{Leads, leads-root, leads-below, Finds}
 use Rattle.name_tree.proofs.Laws.{below-at, some-here, some-none}
 
 module _ (text t : List ℕ) (from count : ℕ) (name : List ℕ) where

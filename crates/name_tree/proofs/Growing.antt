@@ -13,7 +13,8 @@ use Rattle.basics.specs.Slices.{cellOf}
 use Rattle.cells.specs.Cells.{linkBound, entryOf, placeIn, rowIn, leftIn, rightIn}
 use Rattle.cells.proofs.Laws.{entry-place, entry-row, entry-left, entry-right, place-low, row-low}
 use Rattle.name_tree.specs.declared.Spot.{Spot}
-use Rattle.name_tree.specs.Tree.{goesRight, isEntryNamed, linkIn, below, Meets, meets-here, meets-below, Linked, Leads, leads-root, leads-below, Hangs, withLink, linked, grown}
+use Rattle.name_tree.specs.Tree.{goesRight, isEntryNamed, linkIn, below, Meets, meets-here, meets-below, Linked, withLink, linked, grown}
+use Rattle.name_tree.proofs.Found.{Leads, leads-root, leads-below, Hangs}
 use Rattle.name_tree.proofs.Laws.{below-at, below-some}
 
 left-low : (x : ℕ) → leftIn x < linkBound

@@ -20,7 +20,8 @@ use Rattle.identifiers.specs.Names.{bytesOf, printFrom}
 use Rattle.basics.specs.Limits.{definitionLimit}
 use Rattle.cells.specs.Cells.{entryPlaces, linkBound, entryOf, placeIn, rowIn, leftIn, rightIn}
 use Rattle.name_tree.specs.declared.Spot.{Spot}
-use Rattle.name_tree.specs.Tree.{goesRight, isSpelt, isEntryNamed, someNamed, linkIn, below, seekFrom, seek, withLink, linked, grown}
+use Rattle.name_tree.specs.Tree.{goesRight, isSpelt, isEntryNamed, linkIn, below, seekFrom, seek, withLink, linked, grown}
+use Rattle.name_tree.proofs.Found.{someNamed}
 
 -- the side that a name takes
 module _ (name : List ℕ) (depth : ℕ) where

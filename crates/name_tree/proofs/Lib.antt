@@ -1,3 +1,4 @@
+pub mod Found
 pub mod Laws
 pub mod Finding
 pub mod Names

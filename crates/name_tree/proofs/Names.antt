@@ -15,7 +15,8 @@ use Rattle.identifiers.specs.Names.{bytesOf, sameName, isAmong}
 use Rattle.cells.specs.Cells.{placeIn}
 use Rattle.cells.specs.Definitions.{Child, namesOf}
 use Rattle.cells.specs.Relation.{IsEntry, Block, block-end, block-on}
-use Rattle.name_tree.specs.Tree.{isSpelt, isEntryNamed, someNamed}
+use Rattle.name_tree.specs.Tree.{isSpelt, isEntryNamed}
+use Rattle.name_tree.proofs.Found.{someNamed}
 use Rattle.parts.proofs.InstanceName.{instance-named, begins-inside}
 
 pub same-own : (s : List ℕ) → sameBytes s s ≡ true

@@ -1,7 +1,7 @@
 -- The instances of an open body as a tree over their names. The first is the root; each has a link to the left and one to the right, the
 -- numbers of later instances of the body. A name goes down from the root, at each depth to the side that its own bits say.
 use mathlib.Core.Path.{_≡_}
-use mathlib.Core.Bool.{Bool, true, false, _||_, _&&_}
+use mathlib.Core.Bool.{Bool, true, false, _&&_}
 use mathlib.Core.List.{List}
 use Prim.Native.Nat.{ℕ, zero, suc, _+_, _-_, _/_, _%_, _<_}
 use lib.Dec.{eqb, ltb, leb}
@@ -30,11 +30,6 @@ isSpelt text name (refused number place) = false
 unfoldable pub isEntryNamed : List ℕ → ℕ → List ℕ → Bool
 isEntryNamed text x name = sameBytes name (bytesOf text (placeIn x) (placeIn x + length name)) && isSpelt text name (nameAt text (placeIn x))
 
--- whether one of the `count` cells from the index `i` on has this name
-unfoldable pub someNamed : List ℕ → List ℕ → ℕ → ℕ → List ℕ → Bool
-someNamed text t i zero name = false
-someNamed text t i (suc count) name = isEntryNamed text (cellOf t i) name || someNamed text t (suc i) count name
-
 abbrev pub linkIn : Bool → ℕ → ℕ
 linkIn true x = rightIn x
 linkIn false x = leftIn x
@@ -53,20 +48,6 @@ pub data Meets (text t : List ℕ) (from count : ℕ) (name : List ℕ) : ℕ �
 pub record Linked (text t : List ℕ) (from count : ℕ) : Type 0 where
   pub each : (j : ℕ) → j < count → (name : List ℕ) → isEntryNamed text (cellOf t (from + j)) name ≡ true → Meets text t from count name 0 0
 
--- the instance to which a name comes from the root, at this depth
-pub data Leads (t : List ℕ) (from count : ℕ) (name : List ℕ) : ℕ → ℕ → Type 0 where
-  leads-root : Leads t from count name 0 0
-  leads-below : {node depth number : ℕ} → Leads t from count name node depth → number ≡ below (cellOf t (from + node)) (goesRight name depth) node count → 0 < number
-      → Leads t from count name number (suc depth)
-
--- a name comes to an instance that has another, and none is below on its side
-pub record Hangs (t : List ℕ) (from count : ℕ) (name : List ℕ) (node : ℕ) (right : Bool) : Type 0 where
-  pub low : node < count
-  pub depth : ℕ
-  pub leads : Leads t from count name node depth
-  pub side : right ≡ goesRight name depth
-  pub none : below (cellOf t (from + node)) right node count ≡ 0
-
 -- where a name comes to from an instance at a depth, in at most so many steps: one that has it, or one with none below on its side
 unfoldable pub seekFrom : ℕ → List ℕ → List ℕ → ℕ → ℕ → List ℕ → ℕ → ℕ → Spot
 seekFrom zero text t from count name node depth = record { taken = false; node = node; right = false }
@@ -81,12 +62,6 @@ seekFrom (suc steps) text t from count name node depth =
 -- the same from the root: each step leads to a later instance, so there are no more steps than instances
 unfoldable pub seek : List ℕ → List ℕ → ℕ → ℕ → List ℕ → Spot
 seek text t from count name = seekFrom (suc count) text t from count name 0 0
-
--- what it says of the body
-pub record Finds (text t : List ℕ) (from count : ℕ) (name : List ℕ) (spot : Spot) : Type 0 where
-  pub taken : spot .taken ≡ true → someNamed text t from count name ≡ true
-  pub free : spot .taken ≡ false → Linked text t from count → someNamed text t from count name ≡ false
-  pub hangs : spot .taken ≡ false → 0 < count → Hangs t from count name (spot .node) (spot .right)
 
 -- a cell with one link made
 unfoldable pub withLink : Bool → ℕ → ℕ → ℕ

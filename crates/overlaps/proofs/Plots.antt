@@ -1,4 +1,4 @@
--- Laws of the log's registers, in the form that the proofs use: their spans say what the map's registers say.
+-- Laws of the log's registers, in the form that the proofs use: their stretches say what the map's registers say.
 use mathlib.Core.Bool.{Bool, true, false, _||_, _&&_, not}
 use mathlib.Core.Path.{_≡_, refl, sym, ap, _∙_}
 use mathlib.Core.List.{List, []}
@@ -30,7 +30,7 @@ use Rattle.map_rules.specs.Whole.{hasAccess, isPair, isSharedLawfully, overlapR
 use Rattle.register_log.specs.Log.{logWidth, addressBound, depthBound, placeBound, headAddress, headRow, headDepth, stepStart}
 use Rattle.register_log.proofs.Laws.{head-address, head-row, head-depth}
 use Rattle.capped.specs.Offsets.{cut}
-use Rattle.map_walk.specs.Runs.{stepCells}
+use Rattle.map_walk.specs.Runs.{stepNumbers}
 use Rattle.map_walk.specs.Walks.{LogRow, visitAt, noVisit, elementsOf, registersOf}
 use Rattle.overlaps.specs.declared.Plot.{Plot}
 use Rattle.overlaps.specs.Charted.{Charted, plotIn, lastPlace}
@@ -57,11 +57,11 @@ pub place-read : (log : List ℕ) (i : ℕ) {head depth step place : ℕ} → he
 unfolding lastPlace
 place-read log i p q r g = g .0 ∙ ap stepStart (r ∙ ap (λ (n : ℕ). cellOf log (i * logWidth + n)) (q .0 ∙ ap headDepth p))
 
-pub span-read : (table : List Definition) (s log : List ℕ) (i : ℕ) {p : Plot} {wa ra : ℕ} {w r : Bool} → p ≡ plotIn s log i
+pub stretch-read : (table : List Definition) (s log : List ℕ) (i : ℕ) {p : Plot} {wa ra : ℕ} {w r : Bool} → p ≡ plotIn s log i
     → wa ≡ accessCode access.W → w ≡ hasAccess table wa (p .row) → ra ≡ accessCode access.R → r ≡ hasAccess table ra (p .row)
     → record { start = p .address .0; end = p .address .0 + p .size; readable = not w; writable = not r } ≡ stretchIn table s log i
 unfolding stretchIn
-span-read table s log i f a g b h = rw (g, a, h, b, f)
+stretch-read table s log i f a g b h = rw (g, a, h, b, f)
 
 -- the accesses of a type's fields
 abbrev readOnly : List Definition → ℕ → Bool
@@ -139,9 +139,9 @@ module _ (text t s log : List ℕ) (e : Extent) (row : ℕ) (c : Charted text t 
   pub plot-sum : {p : Plot} → p ≡ plotIn s log i → p .address .0 + p .size < 2 ^ 64
   plot-sum f = rw f (omega (arith, plot-end))
 
-  span-full : stretchIn (known text t e) s log i .start < stretchIn (known text t e) s log i .end
+  stretch-full : stretchIn (known text t e) s log i .start < stretchIn (known text t e) s log i .end
   unfolding stretchIn
-  span-full = omega (arith, plot-of .size, register-size text t e (visit .type) (seen-at .type))
+  stretch-full = omega (arith, plot-of .size, register-size text t e (visit .type) (seen-at .type))
 
   start-low : startIn log i ≤ addressEnd
   start-low = omega (arith, logged-address, seen-at .sited .within)
@@ -159,9 +159,9 @@ module _ (text t s log : List ℕ) (e : Extent) (row : ℕ) (c : Charted text t 
       let z : i * logWidth + n ≡ i * logWidth + 1 + (n - 1) = omega (arith, l) in
       let k : n - 1 < nestLimit = omega (arith, l, seen-at .shallow) in
       ap (λ (m : ℕ). stepStart (cellOf log (i * logWidth + m))) logged-depth ∙ ap (λ (m : ℕ). stepStart (cellOf log m)) z
-      ∙ ap stepStart (log-at .steps (n - 1) k ∙ padded-cell nestLimit (stepCells (visit .path)) (n - 1) k) ∙ seen-place text t e 0 visit (seen-at .seen)
+      ∙ ap stepStart (log-at .steps (n - 1) k ∙ padded-cell nestLimit (stepNumbers (visit .path)) (n - 1) k) ∙ seen-place text t e 0 visit (seen-at .seen)
 
--- ---- the spans of two registers clash where the registers overlap
+-- ---- the stretches of two registers clash where the registers overlap
 
 -- two registers neither of which is both read-only and write-only are both readable, or both writable, or lawfully shared
 sides-lawful : (ri wi rj wj : Bool) → (ri && wi) ≡ false → (rj && wj) ≡ false
@@ -207,7 +207,7 @@ module _ (text t s log : List ℕ) (e : Extent) (c : Charted text t s log e (e .
   agrees : Agrees (known text t e) (allShapes text t e) registers (clashIn text t s log e)
   agrees = record { registers = λ i h. seen-at text t s log e (e .map) c i h .register; pairs = clash-overlaps }
 
-  -- 21 of the map is that of the first register whose span clashes with an earlier one
+  -- 21 of the map is that of the first register whose stretch clashes with an earlier one
   abbrev fault : Fault
   fault = overlapping (known text t e) (allShapes text t e) [] (elementsOf text t e (e .map))
 
@@ -300,7 +300,7 @@ module _ (text t s log : List ℕ) (e : Extent) where
           number = startIn log;
           ordered = w .ordered;
           starts = λ k. refl;
-          full = λ k h. span-full text t s log e (e .map) (w .charted) k h;
+          full = λ k h. stretch-full text t s log e (e .map) (w .charted) k h;
         }
 
     pub all-within : {count : ℕ} → count ≡ length order → count ≤ registerCount text t e

@@ -1,4 +1,4 @@
--- Laws of a pass over registers in the order of their addresses, over any spans.
+-- Laws of a pass over registers in the order of their addresses, over any stretches.
 use mathlib.Core.Bool.{Bool, true, false, _||_, _&&_, not}
 use mathlib.Core.Path.{_≡_, refl, sym, ap, ap₂, _∙_}
 use mathlib.Core.List.{List}
@@ -10,8 +10,7 @@ use lib.ListN.{length}
 use borrow.Author.Tests.{lt-ltb, le-ltb, ltb-true, ltb-false, not-true, not-false}
 use Rattle.basics.specs.Choice.{if_then_else_}
 use Rattle.basics.specs.Limits.{registerLimit}
-use Rattle.chars.proofs.Laws.{and-false}
-use Rattle.bits.specs.Bits.{digit}
+use Rattle.chars.proofs.Laws.{differ, and-false}
 use Rattle.orders.specs.Keys.{InOrder, itemAt}
 use Rattle.orders.specs.Unique.{SomeMeeting}
 use Rattle.orders.proofs.Keys.{Standing, item-stands, item-low, items-differ, items-up}
@@ -20,9 +19,6 @@ use Rattle.overlaps.specs.declared.Stretch.{Stretch}
 use Rattle.overlaps.specs.declared.Side.{Side}
 use Rattle.overlaps.specs.Sweeps.{clash, sideOf, Reaches}
 use Rattle.overlaps.proofs.Overlaps.{or-true}
-
-not-both : false ≡ true → ⊥
-not-both e = omega (arith, ap digit e)
 
 -- the number of the register at a place of the order
 abbrev numberAt : List ℕ → ℕ → ℕ
@@ -86,12 +82,12 @@ module _ (side : Side) (b : Bool) (end number : ℕ) where
       by true e false z = g e (ltb-false (side .end) end z)
 
   pub side-left : not b ≡ true → side ≡ sideOf side b end number
-  side-left z = side-by (λ r. side ≡ r) (λ f. refl) (λ f l. refl) (λ f l. absurd (not-both (sym (not-true b z) ∙ f)))
+  side-left z = side-by (λ r. side ≡ r) (λ f. refl) (λ f l. refl) (λ f l. differ (sym f ∙ not-true b z))
 
   pub side-new : not b ≡ false → side .end < end → record { end = end; who = number } ≡ sideOf side b end number
   side-new z h =
       side-by (λ r. record { end = end; who = number } ≡ r)
-      (λ f. absurd (not-both (sym f ∙ not-false b z)))
+      (λ f. differ (sym (not-false b z) ∙ f))
       (λ f l. absurd (omega arith))
       (λ f l. refl)
 
@@ -102,9 +98,9 @@ module _ (side : Side) (b : Bool) (start : ℕ) where
   pub reaches-not : not b ≡ true → Reaches side b start false
   reaches-not z =
       record {
-        free = λ x f. absurd (not-both (sym (not-true b z) ∙ f));
-        over = λ x. absurd (not-both x);
-        counts = λ x. absurd (not-both x);
+        free = λ x f. differ (sym f ∙ not-true b z);
+        over = λ x. differ (sym x);
+        counts = λ x. differ (sym x);
       }
 
   pub reaches-by : not b ≡ false → Reaches side b start (ltb start (side .end))
@@ -176,13 +172,13 @@ module _ (at : ℕ → Stretch) (belongs : Stretch → Bool) (order : List ℕ) 
           holder = λ o. record { place = i; passed = omega arith; number = refl; low = l; end = refl; counts = b };
         }
 
-    kept-on : {span : Stretch} → span ≡ at (numberAt order i) → numberAt order i < limit
-        → Kept at belongs order limit (i + 1) (sideOf side (belongs span) (span .end) (numberAt order i))
+    kept-on : {stretch : Stretch} → stretch ≡ at (numberAt order i) → numberAt order i < limit
+        → Kept at belongs order limit (i + 1) (sideOf side (belongs stretch) (stretch .end) (numberAt order i))
     kept-on e l =
         rw e
         (side-by side (belongs (at (numberAt order i))) (at (numberAt order i) .end) (numberAt order i)
         (λ r. Kept at belongs order limit (i + 1) r)
-        (λ f. kept-same (λ g. absurd (not-both (sym f ∙ g))))
+        (λ f. kept-same (λ g. differ (sym g ∙ f)))
         (λ f h. kept-same (λ g. h))
         (λ f h. kept-more l f h))
 
@@ -230,17 +226,17 @@ module _ (at : ℕ → Stretch) (order : List ℕ) (limit : ℕ) {i : ℕ} {read
         }
 
     -- an earlier one ends before the register at i, where a side to which both belong does not reach into that one
-    behind : {belongs : Stretch → Bool} {side : Side} {b : Bool} {span : Stretch} → Kept at belongs order limit i side
-        → Reaches side (belongs span) (span .start) b → b ≡ false → span ≡ at (numberAt order i)
+    behind : {belongs : Stretch → Bool} {side : Side} {b : Bool} {stretch : Stretch} → Kept at belongs order limit i side
+        → Reaches side (belongs stretch) (stretch .start) b → b ≡ false → stretch ≡ at (numberAt order i)
         → (k : ℕ) → k < i → numberAt order k < limit → belongs (at (numberAt order k)) ≡ true → belongs (at (numberAt order i)) ≡ true
         → clash at (numberAt order k) (numberAt order i) ≡ false
     behind {belongs} v r z e k l m p q =
         clash-behind at (numberAt order k) (numberAt order i)
         (omega (arith, v .covers k l m p, r .free z (ap belongs e ∙ q), ap (λ (s : Stretch). s .start) e))
 
-    module _ (h : numberAt order i < limit) {span : Stretch} (e : span ≡ at (numberAt order i)) {x y : Bool}
-        (rx : Reaches readable (span .readable) (span .start) x) (x-not : x ≡ false)
-        (ry : Reaches writable (span .writable) (span .start) y) (y-not : y ≡ false)
+    module _ (h : numberAt order i < limit) {stretch : Stretch} (e : stretch ≡ at (numberAt order i)) {x y : Bool}
+        (rx : Reaches readable (stretch .readable) (stretch .start) x) (x-not : x ≡ false)
+        (ry : Reaches writable (stretch .writable) (stretch .start) y) (y-not : y ≡ false)
       where
         new-apart : (k : ℕ) → k < i → numberAt order k < limit → clash at (numberAt order k) (numberAt order i) ≡ false
         new-apart k l m = by (u .readable) (v .readable) (u .writable) (v .writable) refl refl refl refl
@@ -265,8 +261,8 @@ module _ (at : ℕ → Stretch) (order : List ℕ) (limit : ℕ) {i : ℕ} {read
             by false b true false p q r s = lawful (ap₂ _&&_ p q) (ap₂ _&&_ r s)
             by false b false d p q r s = lawful (ap₂ _&&_ p q) (ap₂ _&&_ r s)
 
-        pub passing-on : {f g : Side} → f ≡ sideOf readable (span .readable) (span .end) (numberAt order i)
-            → g ≡ sideOf writable (span .writable) (span .end) (numberAt order i) → Passing at order limit (i + 1) f g
+        pub passing-on : {f g : Side} → f ≡ sideOf readable (stretch .readable) (stretch .end) (numberAt order i)
+            → g ≡ sideOf writable (stretch .writable) (stretch .end) (numberAt order i) → Passing at order limit (i + 1) f g
         passing-on p q =
             rw (p, q)
             record {
@@ -332,8 +328,8 @@ module _ (at : ℕ → Stretch) (belongs : Stretch → Bool)
     (clash-of : (i j : ℕ) → at j .start < at i .end → at i .start < at j .end → belongs (at i) ≡ true → belongs (at j) ≡ true
     → clash at i j ≡ true)
     {n : ℕ} {order : List ℕ} (o : Lined at n order) {limit i : ℕ} {side : Side} (w : Kept at belongs order limit i side)
-    (h : i < length order) {span : Stretch} (e : span ≡ at (numberAt order i)) {x : Bool}
-    (r : Reaches side (belongs span) (span .start) x) (z : x ≡ true)
+    (h : i < length order) {stretch : Stretch} (e : stretch ≡ at (numberAt order i)) {x : Bool}
+    (r : Reaches side (belongs stretch) (stretch .start) x) (z : x ≡ true)
   where
     holding : Holding at belongs order limit i side
     holding = w .holder (omega (arith, r .over z))
@@ -361,13 +357,13 @@ module _ (at : ℕ → Stretch) (belongs : Stretch → Bool)
     stops m f = later-meets at stopped other (holding .low) m f
 
 module _ (at : ℕ → Stretch) {n : ℕ} {order : List ℕ} (o : Lined at n order) {limit i g : ℕ} {readable writable : Side}
-    (w : Passing at order limit i readable writable) (h : i < length order) (m : numberAt order i < limit) {span : Stretch}
-    (e : span ≡ at (numberAt order i)) {x : Bool}
+    (w : Passing at order limit i readable writable) (h : i < length order) (m : numberAt order i < limit) {stretch : Stretch}
+    (e : stretch ≡ at (numberAt order i)) {x : Bool}
   where
-    pub reader-stops : Reaches readable (span .readable) (span .start) x → x ≡ true → LaterOf (readable .who) (numberAt order i) g
+    pub reader-stops : Reaches readable (stretch .readable) (stretch .start) x → x ≡ true → LaterOf (readable .who) (numberAt order i) g
         → SomeMeeting (clash at) limit g
     reader-stops r z f = stops at canRead (clash-read at) o (w .read) h e r z m f
 
-    pub writer-stops : Reaches writable (span .writable) (span .start) x → x ≡ true → LaterOf (writable .who) (numberAt order i) g
+    pub writer-stops : Reaches writable (stretch .writable) (stretch .start) x → x ≡ true → LaterOf (writable .who) (numberAt order i) g
         → SomeMeeting (clash at) limit g
     writer-stops r z f = stops at canWrite (clash-write at) o (w .write) h e r z m f

@@ -6,7 +6,7 @@ use mathlib.Core.List.{List, [], _∷_}
 use Prim.Native.Nat.{ℕ, zero, suc, _+_, _-_, _/_, _%_, _<_, _≤_}
 use native.Mathlib.Omega.{arith}
 use lib.Dec.{eqb, ltb}
-use lib.ListN.{length, getD}
+use lib.ListN.{length, getD, List·getD-map}
 use borrow.Author.Tests.{eqb-true, ltb-false, not-false}
 use Rattle.basics.specs.Choice.{if_then_else_}
 use Rattle.chars.proofs.Laws.{either, or-left, or-right}
@@ -27,7 +27,7 @@ use Rattle.components.proofs.Laws.{first-sound, later-sound, pass-test, pass-on
 use Rattle.basics.specs.Slices.{cellOf}
 use Rattle.cells.specs.Cells.{entryPlaces, componentIn, placeIn}
 use Rattle.cells.proofs.Laws.{place-low}
-use Rattle.register_log.specs.Log.{placeBound, stepIndices, stepStart}
+use Rattle.register_log.specs.Log.{placeBound, stepIndexBound, stepOf, stepStart}
 use Rattle.register_log.proofs.Laws.{step-start}
 use Rattle.cells.specs.Definitions.{Child, Definition, definitionOf}
 use Rattle.cells.specs.Relation.{IsEntry, Block, block-end, block-on}
@@ -52,7 +52,7 @@ use Rattle.rows.specs.Rows.{padded, indexCode}
 use Rattle.map_rules.specs.Visits.{PathStep, Visit, indexIn, isGroup}
 use Rattle.map_rules.proofs.Elements.{stepFor, Stepped, Seen, visits-seen}
 use Rattle.map_rules.specs.Whole.{isRegister, isRegisterVisit, tooMany, tooClose, misplaced, registersAmong}
-use Rattle.map_walk.specs.Runs.{stepNumber, stepCells}
+use Rattle.map_walk.specs.Runs.{stepNumber, stepNumbers}
 use Rattle.map_walk.specs.Walks.{elementsOf, registersOf, surveyFault}
 
 -- an instance in the body of a row, and the cell that holds it
@@ -113,7 +113,7 @@ index-low (array.Range mark left right) k h = omega arith
 pub record StepFits (s : PathStep) : Type 0 where
   pub start : s .name .start < placeBound
   pub end : s .name .end < placeBound
-  pub index : indexCode (s .index) < stepIndices
+  pub index : indexCode (s .index) < stepIndexBound
 
 pub step-fits : {text t : List ℕ} {e : Extent} (s : PathStep) → StepOf text t e s → StepFits s
 step-fits {text} {t} {e} s o =
@@ -132,11 +132,9 @@ noStep = record { name = record { start = 0; end = 0 }; index = Nothing }
 abbrev pub stepAt : List PathStep → ℕ → PathStep
 stepAt path j = getD path j noStep
 
-step-cell : (path : List PathStep) (j : ℕ) → j < length path → cellOf (stepCells path) j ≡ stepNumber (stepAt path j)
-unfolding stepCells
-step-cell [] j h = absurd (omega arith)
-step-cell (s ∷ path) zero h = refl
-step-cell (s ∷ path) (suc j) h = step-cell path j (omega (arith, h))
+step-cell : (path : List PathStep) (j : ℕ) → cellOf (stepNumbers path) j ≡ stepNumber (stepAt path j)
+unfolding stepOf
+step-cell path j = List·getD-map stepNumber path j noStep
 
 -- cells that are padded
 pub padded-cell : (n : ℕ) (xs : List ℕ) (k : ℕ) → k < n → cellOf (padded n xs) k ≡ cellOf xs k
@@ -158,13 +156,13 @@ module _ (text t : List ℕ) (e : Extent) (depth : ℕ) (v : Visit) (s : Seen (e
       ap (λ (j : ℕ). stepAt (v .path) j .name) z ∙ ap (λ (p : List PathStep). stepAt p (length (s .before)) .name) (s .whole)
       ∙ ap (λ (p : PathStep). p .name) (getD-last (s .before) (s .last) noStep) ∙ s .named
 
-  pub seen-place : stepStart (cellOf (stepCells (v .path)) (length (v .path) - 1)) ≡ v .name .start
+  pub seen-place : stepStart (cellOf (stepNumbers (v .path)) (length (v .path) - 1)) ≡ v .name .start
   seen-place =
       let j : ℕ = length (v .path) - 1 in
       let l : j < length (v .path) = omega (arith, seen-length) in
       let p : PathStep = stepAt (v .path) j in
       let f : StepFits p = step-fits p (all-at noStep j (s .steps) l) in
-      ap stepStart (step-cell (v .path) j l) ∙ step-start (p .name .start) (p .name .end) (indexCode (p .index)) (f .start) ∙ ap (λ (n : Name). n .start) seen-last
+      ap stepStart (step-cell (v .path) j) ∙ step-start (p .name .start) (p .name .end) (indexCode (p .index)) (f .start) ∙ ap (λ (n : Name). n .start) seen-last
 
 -- 18, 19 and 20 are kept
 pub few-levels : (table : List Definition) (registers fields : ℕ) (vs : List Visit) → tooMany table registers fields vs ≡ None → All (λ (v : Visit). length (v .path) ≤ 8) vs

@@ -11,7 +11,7 @@ use Rattle.lex.specs.Token.{tokenAt}
 use Rattle.lex.specs.declared.Word.{Word}
 use Rattle.lex.specs.declared.Word.the-variants as word
 use Rattle.lex.proofs.Bounds.{token-inside, token-within}
-use Rattle.lex.proofs.Own.{name-own, name-short}
+use Rattle.lex.proofs.Own.{name-own, no-end, name-within}
 use Rattle.expressions.proofs.Readings.{HoldsRead, holds-ok, holds-stop, holds-of, holds-mapped, holds-then}
 use Rattle.parts.specs.Reading.{Parsed, ok, stop, andThen, mapped}
 use Rattle.parts.specs.Words.{isName}
@@ -87,9 +87,6 @@ is-token text at {name} {next} = by (isName (tokenAt text at .word)) refl
     by false q e = absurd (let z : _≡_ {A = ℕ} 0 1 = cc in omega arith)
 
 -- so it lies in the text
-no-end : (w : Word) → w ≡ word.Name → w ≡ word.End → ⊥
-no-end w e f = let z : _≡_ {A = ℕ} 0 1 = cc in omega arith
-
 pub begins-inside : (text : List ℕ) (at : ℕ) {name : Name} → Begins text at name → (name .start ≤ name .end) × (name .end ≤ length text)
 begins-inside text at {name} b =
     let k = is-token text at (b .reads) in
@@ -101,7 +98,7 @@ begins-inside text at {name} b =
 pub instance-short : (text : List ℕ) (at : ℕ) {i : Instance} {n : ℕ} → instanceAt text at ≡ ok i n → i .name .end ≤ i .name .start + nameLimit
 instance-short text at e =
     let k = is-token text at (instance-named text at e .reads) in
-    rw (k .starts, k .ends) (name-short text at (k .word-is))
+    rw (k .starts, k .ends) (name-within text at (k .word-is))
 
 -- read at its name, an instance is the same
 pub instance-own : (text : List ℕ) (at : ℕ) {i : Instance} {n : ℕ} → instanceAt text at ≡ ok i n → instanceAt text (i .name .start) ≡ ok i n

@@ -17,10 +17,20 @@ use Rattle.cells.specs.Decoded.{childIn}
 use Rattle.cells.specs.declared.ChildReading.the-variants as childReading
 use Rattle.cells.proofs.Laws.{written-length, written-other, written-same}
 use Rattle.layout.specs.declared.Shape.{Shape}
-use Rattle.sizes.specs.Shapes.{shapeWidth, shapeIn, ShapesIn}
+use Rattle.sizes.specs.Shapes.{shapesSize, shapeWidth, shapeIn, ShapesIn}
 use Rattle.recall.specs.Encoded.{instanceCells, instanceIn}
-use Rattle.recall.specs.Shelves.{shelfCount, shelfWidth, recallSize, shelfAt, GivenAt, Shelved, ShapesStay, Shelving}
+use Rattle.recall.specs.Shelves.{shelfCount, shelfWidth, recallSize, shelfAt, GivenAt, Shelved}
 use Rattle.recall.proofs.Encoding.{instance-back, cells-count, instance-same}
+
+-- the shapes stay, and the length
+pub record ShapesStay (s u : List ℕ) : Type 0 where
+  pub same : length u ≡ length s
+  pub cells : (j : ℕ) → j < shapesSize → cellOf u j ≡ cellOf s j
+
+-- what a pass that keeps instances leaves
+pub record Shelving (text s u : List ℕ) : Type 0 where
+  pub shelved : Shelved text u
+  pub stay : ShapesStay s u
 
 -- whether a shelf holds a place
 module _ (s : List ℕ) (at place : ℕ) {key : ℕ} (e : key ≡ cellOf s at) where

@@ -1,14 +1,14 @@
 -- Laws of what is kept: each way through the code comes to its definition, and what is kept is what the text gives.
-use mathlib.Core.Bool.{Bool, true, false, _&&_}
+use mathlib.Core.Bool.{Bool, true, false}
 use mathlib.Core.Path.{_≡_, refl, sym, ap, _∙_}
 use mathlib.Core.List.{List}
 use Prim.Native.Nat.{ℕ, zero, suc, _+_, _-_, _/_, _%_, _<_, _≤_}
 use native.Mathlib.Omega.{arith}
 use native.Mathlib.Nat.{mod-lt}
 use lib.Dec.{eqb, leb, ltb}
-use lib.ListN.{length, set, length-set}
+use lib.ListN.{length, set, length-set, List·getD-eq-default}
 use lib.Seq.{getD-set-same, getD-set-other}
-use borrow.Author.Tests.{lt-ltb, le-ltb, le-leb, lt-leb, eqb-true, eqb-false, eq-eqb, ne-eqb}
+use borrow.Author.Tests.{lt-ltb, le-ltb, ltb-true, ltb-false, le-leb, lt-leb, eqb-true, eqb-false, eq-eqb, ne-eqb}
 use Rattle.basics.specs.Choice.{if_then_else_}
 use Rattle.basics.specs.Slices.{cellOf, written}
 use Rattle.lex.specs.Token.{tokenAt}
@@ -23,9 +23,9 @@ use Rattle.cells.specs.Cells.{entryPlaces, entriesAt, firstIn, countIn, placeIn
 use Rattle.cells.specs.declared.Span.{Span}
 use Rattle.sizes.specs.declared.Extent.{Extent}
 use Rattle.recall.specs.Encoded.{instanceCells}
-use Rattle.recall.specs.Shelves.{shelfCount, recallSize, shelfAt, Shelved, ShapesStay, Shelving}
-use Rattle.recall.specs.Kept.{reachOf, shelfOf, isSurelyShort, keptOne, keptRead, keptAt, keptFrom, keptRow, keptRows, emptied, keptLong}
-use Rattle.recall.proofs.Keeping.{stay-all, stay-more, shelf-put, keeps-none, keeps-more}
+use Rattle.recall.specs.Shelves.{shelfCount, recallSize, shelfAt, Shelved}
+use Rattle.recall.specs.Kept.{reachOf, shelfOf, isSurelyShort, keptOne, keptRead, keptAt, eachFrom, keptRow, emptiedAt, emptied, keptLong}
+use Rattle.recall.proofs.Keeping.{ShapesStay, Shelving, stay-all, stay-more, shelf-put, keeps-none, keeps-more}
 
 -- a text's share for a shelf, and the shelf of a place
 pub reach-some : (bytes : ℕ) {r : ℕ} → r ≡ reachOf bytes → 1 ≤ r
@@ -38,49 +38,52 @@ unfolding shelfOf
 shelf-made bytes place {r} e = (ap (λ (n : ℕ). place / n % shelfCount) e, mod-lt (place / r) (omega arith))
 
 -- whether an instance is surely short
+near-same : (place next r : ℕ) → place < next → ltb (next - place) r ≡ ltb next (place + r)
+near-same place next r h = by (ltb (next - place) r) refl
+  where
+    by : (b : Bool) → ltb (next - place) r ≡ b → b ≡ ltb next (place + r)
+    by true e = sym (lt-ltb next (place + r) (omega (arith, ltb-true (next - place) r e)))
+    by false e = sym (le-ltb next (place + r) (omega (arith, ltb-false (next - place) r e)))
+
 module _ (bytes : ℕ) (t : List ℕ) (i : ℕ) where
   pub short-past : length t ≤ i → false ≡ isSurelyShort bytes t i
   unfolding isSurelyShort
-  short-past h = rw (le-ltb i (length t) h)
+  short-past h = rw (List·getD-eq-default t 0 {n = i} h, List·getD-eq-default t 0 {n = i + 1} (omega arith), le-ltb (placeIn 0) (placeIn 0) (omega arith))
 
-  module _ {place next x : ℕ} (h : i < length t) (p : (place ≡ placeIn (cellOf t i)) × (place < entryPlaces)) (y : x ≡ cellOf t (i + 1))
+  module _ {place next x : ℕ} (p : (place ≡ placeIn (cellOf t i)) × (place < entryPlaces)) (y : x ≡ cellOf t (i + 1))
       (q : (next ≡ placeIn x) × (next < entryPlaces)) where
     next-is : next ≡ placeIn (cellOf t (i + 1))
     next-is = q .0 ∙ ap placeIn y
 
     pub short-behind : next ≤ place → false ≡ isSurelyShort bytes t i
     unfolding isSurelyShort
-    short-behind l =
-        rw (lt-ltb i (length t) h, le-ltb (placeIn (cellOf t i)) (placeIn (cellOf t (i + 1))) (omega (arith, l, p .0, next-is)))
+    short-behind l = rw (← p .0, ← next-is, le-ltb place next l)
 
     pub short-near : {r : ℕ} → place < next → r ≡ reachOf bytes → ltb (next - place) r ≡ isSurelyShort bytes t i
     unfolding isSurelyShort
-    short-near l e =
-        let m = lt-ltb (placeIn (cellOf t i)) (placeIn (cellOf t (i + 1))) (omega (arith, l, p .0, next-is)) in
-        rw (lt-ltb i (length t) h, m, next-is, p .0, e)
+    short-near {r} l e = rw (← p .0, ← next-is, ← e, lt-ltb place next l) (near-same place next r l)
 
 -- one instance
 module _ (text s : List ℕ) (place : ℕ) (i : Instance) (next : ℕ) {k : Token} (e : k ≡ tokenAt text next) where
   end-is : k .start ≡ tokenAt text next .start
   end-is = ap (λ (x : Token). x .start) e
 
-  pub one-behind : k .start ≤ place → s ≡ keptOne text s place i next
+  near : tokenAt text next .start < place + reachOf (length text) → s ≡ keptOne text s place i next
   unfolding keptOne
-  one-behind h = rw (le-ltb place (tokenAt text next .start) (omega (arith, h, end-is)))
+  near h = rw (lt-leb (place + reachOf (length text)) (tokenAt text next .start) h)
+
+  pub one-behind : k .start ≤ place → s ≡ keptOne text s place i next
+  one-behind h = near (omega (arith, h, end-is, reach-some (length text) refl))
 
   module _ {r : ℕ} (h : place < k .start) (f : r ≡ reachOf (length text)) where
-    after : ltb place (tokenAt text next .start) ≡ true
-    after = lt-ltb place (tokenAt text next .start) (omega (arith, h, end-is))
-
     pub one-short : k .start - place < r → s ≡ keptOne text s place i next
-    unfolding keptOne
-    one-short l = rw (after, lt-leb (reachOf (length text)) (tokenAt text next .start - place) (omega (arith, l, f, end-is)))
+    one-short l = near (omega (arith, h, l, f, end-is))
 
     pub one-long : {x at : ℕ} {t u : List ℕ} → r ≤ k .start - place → (x ≡ shelfOf (length text) place) × (x < shelfCount) → at ≡ shelfAt x
         → t ≡ set s at (place + 1) → u ≡ written t (at + 1) (instanceCells i) → u ≡ keptOne text s place i next
     unfolding keptOne
     one-long l p q e1 e2 =
-        rw (after, le-leb (reachOf (length text)) (tokenAt text next .start - place) (omega (arith, l, f, end-is)), e2, e1, q, p .0)
+        rw (le-leb (place + reachOf (length text)) (tokenAt text next .start) (omega (arith, h, l, f, end-is)), e2, e1, q, p .0)
 
 -- the instance of a cell
 module _ (text t s : List ℕ) (i : ℕ) {b : Bool} (e : b ≡ isSurelyShort (length text) t i) where
@@ -104,144 +107,110 @@ module _ (text t s : List ℕ) (i : ℕ) {b : Bool} (e : b ≡ isSurelyShort (le
         → s ≡ keptAt text t s i
     at-refused g q = sym (kept-as (ap instanceRead (sym q) ∙ g))
 
--- a definition's instances: keeping those that are left from a cell on comes to the same as keeping all of them
-pub record CellsLeft (text t s u : List ℕ) (from i to : ℕ) : Type 0 where
+-- one after another: what is left to do from here comes to the same as all of it
+pub record Left (f : List ℕ → ℕ → List ℕ) (s u : List ℕ) (from i to : ℕ) : Type 0 where
   pub low : i ≤ to
   pub even : length u ≡ length s
-  pub same : keptFrom text t u i (to - i) ≡ keptFrom text t s from (to - from)
+  pub same : eachFrom f u i (to - i) ≡ eachFrom f s from (to - from)
 
-from-none : (text t u : List ℕ) (i : ℕ) → keptFrom text t u i 0 ≡ u
-unfolding keptFrom
-from-none text t u i = refl
+module _ (f : List ℕ → ℕ → List ℕ) where
+  each-none : (u : List ℕ) (i : ℕ) → eachFrom f u i 0 ≡ u
+  unfolding eachFrom
+  each-none u i = refl
 
-from-next : (text t u : List ℕ) (i n : ℕ) → keptFrom text t u i (suc n) ≡ keptFrom text t (keptAt text t u i) (i + 1) n
-unfolding keptFrom
-from-next text t u i n = refl
+  each-next : (u : List ℕ) (i n : ℕ) → eachFrom f u i (suc n) ≡ eachFrom f (f u i) (i + 1) n
+  unfolding eachFrom
+  each-next u i n = refl
 
-module _ {text t s u : List ℕ} {from i to : ℕ} (c : CellsLeft text t s u from i to) where
-  pub cells-next : {v : List ℕ} → i < to → v ≡ keptAt text t u i → length v ≡ length u → CellsLeft text t s v from (i + 1) to
-  cells-next h e f =
-      let n : to - i ≡ suc (to - (i + 1)) = omega arith in
-      record { low = omega arith; even = f ∙ c .even; same = rw (e, ← from-next text t u i (to - (i + 1)), ← n) (c .same) }
+  pub left-start : (s : List ℕ) (from to : ℕ) → from ≤ to → Left f s s from from to
+  left-start s from to h = record { low = h; even = refl; same = refl }
 
-  cells-done : to ≤ i → u ≡ keptFrom text t s from (to - from)
-  cells-done h = let n : to - i ≡ 0 = omega arith in sym (from-none text t u i) ∙ ap (keptFrom text t u i) (sym n) ∙ c .same
+  module _ {s u : List ℕ} {from i to : ℕ} (c : Left f s u from i to) where
+    pub left-next : {v : List ℕ} → i < to → v ≡ f u i → length v ≡ length u → Left f s v from (i + 1) to
+    left-next h e l =
+        let n : to - i ≡ suc (to - (i + 1)) = omega arith in
+        record { low = omega arith; even = l ∙ c .even; same = rw (e, ← each-next u i (to - (i + 1)), ← n) (c .same) }
 
+    left-done : to ≤ i → u ≡ eachFrom f s from (to - from)
+    left-done h = let n : to - i ≡ 0 = omega arith in sym (each-none u i) ∙ ap (eachFrom f u i) (sym n) ∙ c .same
+
+-- a definition's instances
 module _ (text t s : List ℕ) (row : ℕ) {x : Span} (p : (x .from ≡ entriesAt + firstIn t row) × (x .to ≡ x .from + countIn t row)) where
-  pub cells-start : CellsLeft text t s s (x .from) (x .from) (x .to)
-  cells-start = record { low = omega (arith, p .1); even = refl; same = refl }
+  pub cells-start : Left (keptAt text t) s s (x .from) (x .from) (x .to)
+  cells-start = left-start (keptAt text t) s (x .from) (x .to) (omega (arith, p .1))
 
-  pub cells-end : (map : ℕ) {u : List ℕ} {i : ℕ} → (row ≡ map → ⊥) → CellsLeft text t s u (x .from) i (x .to) → x .to ≤ i
-      → u ≡ keptRow text t s map row
+  pub cells-end : (map : ℕ) {u : List ℕ} {i : ℕ} → (row ≡ map → ⊥) → Left (keptAt text t) s u (x .from) i (x .to) → x .to ≤ i
+      → u ≡ keptRow text t map s row
   unfolding keptRow
   cells-end map e c h =
       let n : x .to - x .from ≡ countIn t row = omega (arith, p .1) in
-      rw (ne-eqb row map e, ← n, ← p .0) (cells-done c h)
+      rw (ne-eqb row map e, ← n, ← p .0) (left-done (keptAt text t) c h)
 
-pub cells-none : (text t s : List ℕ) (map row : ℕ) → row ≡ map → s ≡ keptRow text t s map row
+pub cells-none : (text t s : List ℕ) (map row : ℕ) → row ≡ map → s ≡ keptRow text t map s row
 unfolding keptRow
 cells-none text t s map row e = rw (eq-eqb row map e)
 
--- the same of all rows
-pub record RowsLeft (text t s u : List ℕ) (map row rows : ℕ) : Type 0 where
-  pub low : row ≤ rows
-  pub even : length u ≡ length s
-  pub same : keptRows text t u map row (rows - row) ≡ keptRows text t s map 0 rows
+-- all definitions
+module _ (text t : List ℕ) (e : Extent) where
+  pub rows-start : (s : List ℕ) → Left (keptRow text t (e .map)) s s 0 0 (e .rows)
+  rows-start s = left-start (keptRow text t (e .map)) s 0 (e .rows) (omega arith)
 
-rows-none : (text t u : List ℕ) (map row : ℕ) → keptRows text t u map row 0 ≡ u
-unfolding keptRows
-rows-none text t u map row = refl
+  pub rows-end : (s : List ℕ) {v u : List ℕ} {row : ℕ} → v ≡ emptied s → Left (keptRow text t (e .map)) v u 0 row (e .rows) → e .rows ≤ row
+      → u ≡ keptLong text t s e
+  unfolding keptLong
+  rows-end s {v} f c h =
+      let n : e .rows - 0 ≡ e .rows = omega arith in
+      left-done (keptRow text t (e .map)) c h ∙ ap (eachFrom (keptRow text t (e .map)) v 0) n ∙ ap (λ (w : List ℕ). eachFrom (keptRow text t (e .map)) w 0 (e .rows)) f
 
-rows-more : (text t u : List ℕ) (map row n : ℕ)
-    → keptRows text t u map row (suc n) ≡ keptRows text t (keptRow text t u map row) map (row + 1) n
-unfolding keptRows
-rows-more text t u map row n = refl
+-- the shelves that are emptied
+pub shelves-start : (s : List ℕ) → Left emptiedAt s s 0 0 shelfCount
+shelves-start s = left-start emptiedAt s 0 shelfCount (omega arith)
 
-pub rows-start : (text t s : List ℕ) (map rows : ℕ) → RowsLeft text t s s map 0 rows
-rows-start text t s map rows = record { low = omega arith; even = refl; same = ap (keptRows text t s map 0) (omega arith) }
-
-module _ {text t s u : List ℕ} {map row rows : ℕ} (c : RowsLeft text t s u map row rows) where
-  pub rows-next : {v : List ℕ} → row < rows → v ≡ keptRow text t u map row → length v ≡ length u → RowsLeft text t s v map (row + 1) rows
-  rows-next h e f =
-      let n : rows - row ≡ suc (rows - (row + 1)) = omega arith in
-      record { low = omega arith; even = f ∙ c .even; same = rw (e, ← rows-more text t u map row (rows - (row + 1)), ← n) (c .same) }
-
-  rows-done : rows ≤ row → u ≡ keptRows text t s map 0 rows
-  rows-done h =
-      let n : rows - row ≡ 0 = omega arith in
-      sym (rows-none text t u map row) ∙ ap (keptRows text t u map row) (sym n) ∙ c .same
-
-pub rows-end : (text t s : List ℕ) (e : Extent) {v u : List ℕ} {row : ℕ} → v ≡ emptied s 0 shelfCount
-    → RowsLeft text t v u (e .map) row (e .rows) → e .rows ≤ row → u ≡ keptLong text t s e
-unfolding keptLong
-rows-end text t s e f c h = rows-done c h ∙ ap (λ (v : List ℕ). keptRows text t v (e .map) 0 (e .rows)) f
-
--- and of the shelves that are emptied
-pub record ShelvesLeft (s u : List ℕ) (shelf : ℕ) : Type 0 where
-  pub low : shelf ≤ shelfCount
-  pub even : length u ≡ length s
-  pub same : emptied u shelf (shelfCount - shelf) ≡ emptied s 0 shelfCount
-
-emptied-none : (u : List ℕ) (shelf : ℕ) → emptied u shelf 0 ≡ u
-unfolding emptied
-emptied-none u shelf = refl
-
-emptied-next : (u : List ℕ) (shelf n : ℕ) → emptied u shelf (suc n) ≡ emptied (set u (shelfAt shelf) 0) (shelf + 1) n
-unfolding emptied
-emptied-next u shelf n = refl
-
-pub shelves-start : (s : List ℕ) → ShelvesLeft s s 0
-shelves-start s = record { low = omega arith; even = refl; same = refl }
-
-module _ {s u : List ℕ} {shelf : ℕ} (c : ShelvesLeft s u shelf) where
+module _ {s u : List ℕ} {shelf : ℕ} (c : Left emptiedAt s u 0 shelf shelfCount) where
   pub shelves-next : {at : ℕ} {v : List ℕ} → shelf < shelfCount → at ≡ shelfAt shelf → v ≡ set u at 0 → length v ≡ length u
-      → ShelvesLeft s v (shelf + 1)
-  shelves-next {v = v} h p q f =
-      let n : shelfCount - shelf ≡ suc (shelfCount - (shelf + 1)) = omega arith in
-      let w : v ≡ set u (shelfAt shelf) 0 = q ∙ ap (λ (k : ℕ). set u k 0) p in
-      record { low = omega arith; even = f ∙ c .even; same = rw (w, ← emptied-next u shelf (shelfCount - (shelf + 1)), ← n) (c .same) }
+      → Left emptiedAt s v 0 (shelf + 1) shelfCount
+  unfolding emptiedAt
+  shelves-next h p q l = left-next emptiedAt c h (q ∙ ap (λ (k : ℕ). set u k 0) p) l
 
-  pub shelves-end : shelfCount ≤ shelf → u ≡ emptied s 0 shelfCount
-  shelves-end h =
-      let n : shelfCount - shelf ≡ 0 = omega arith in
-      sym (emptied-none u shelf) ∙ ap (emptied u shelf) (sym n) ∙ c .same
+  pub shelves-end : shelfCount ≤ shelf → u ≡ emptied s
+  shelves-end h = left-done emptiedAt c h
 
 -- empty shelves: the shapes stay, and no shelf holds a place
-emptied-stay : (s : List ℕ) (shelf count : ℕ) → ShapesStay s (emptied s shelf count)
-unfolding emptied
+emptied-stay : (s : List ℕ) (shelf count : ℕ) → ShapesStay s (eachFrom emptiedAt s shelf count)
+unfolding eachFrom emptiedAt
 emptied-stay s shelf zero = stay-all s
 emptied-stay s shelf (suc count) =
     stay-more
     (record { same = length-set s (shelfAt shelf) 0; cells = λ j l. getD-set-other s (shelfAt shelf) j 0 0 (λ z. omega arith) })
     (emptied-stay (set s (shelfAt shelf) 0) (shelf + 1) count)
 
-emptied-before : (s : List ℕ) (shelf count k : ℕ) → k < shelf → cellOf (emptied s shelf count) (shelfAt k) ≡ cellOf s (shelfAt k)
-unfolding emptied
+emptied-before : (s : List ℕ) (shelf count k : ℕ) → k < shelf → cellOf (eachFrom emptiedAt s shelf count) (shelfAt k) ≡ cellOf s (shelfAt k)
+unfolding eachFrom emptiedAt
 emptied-before s shelf zero k h = refl
 emptied-before s shelf (suc count) k h =
     emptied-before (set s (shelfAt shelf) 0) (shelf + 1) count k (omega arith)
     ∙ getD-set-other s (shelfAt shelf) (shelfAt k) 0 0 (λ z. omega arith)
 
 emptied-at : (s : List ℕ) (shelf count k : ℕ) → recallSize ≤ length s → shelf + count ≤ shelfCount → shelf ≤ k → k < shelf + count
-    → cellOf (emptied s shelf count) (shelfAt k) ≡ 0
-unfolding emptied
+    → cellOf (eachFrom emptiedAt s shelf count) (shelfAt k) ≡ 0
+unfolding eachFrom emptiedAt
 emptied-at s shelf zero k l m a b = absurd (omega arith)
 emptied-at s shelf (suc count) k l m a b =
     by (eqb shelf k) refl
     (λ n. emptied-at (set s (shelfAt shelf) 0) (shelf + 1) count k (rw (length-set s (shelfAt shelf) 0) l) (omega arith) n (omega arith))
   where
-    by : (c : Bool) → eqb shelf k ≡ c → (shelf + 1 ≤ k → cellOf (emptied (set s (shelfAt shelf) 0) (shelf + 1) count) (shelfAt k) ≡ 0)
-        → cellOf (emptied (set s (shelfAt shelf) 0) (shelf + 1) count) (shelfAt k) ≡ 0
+    by : (c : Bool) → eqb shelf k ≡ c → (shelf + 1 ≤ k → cellOf (eachFrom emptiedAt (set s (shelfAt shelf) 0) (shelf + 1) count) (shelfAt k) ≡ 0)
+        → cellOf (eachFrom emptiedAt (set s (shelfAt shelf) 0) (shelf + 1) count) (shelfAt k) ≡ 0
     by true x later =
         let w : k ≡ shelf = omega (arith, eqb-true shelf k x) in
         emptied-before (set s (shelfAt shelf) 0) (shelf + 1) count k (omega arith)
         ∙ rw w (getD-set-same s (shelfAt shelf) 0 0 (omega arith))
     by false x later = let w : shelf ≡ k → ⊥ = eqb-false shelf k x in later (omega arith)
 
-emptied-all : (s : List ℕ) (k : ℕ) → recallSize ≤ length s → k < shelfCount → cellOf (emptied s 0 shelfCount) (shelfAt k) ≡ 0
+emptied-all : (s : List ℕ) (k : ℕ) → recallSize ≤ length s → k < shelfCount → cellOf (emptied s) (shelfAt k) ≡ 0
 emptied-all s k l m = emptied-at s 0 shelfCount k l (omega arith) (omega arith) (omega arith)
 
-emptied-kept : (text s : List ℕ) → recallSize ≤ length s → Shelving text s (emptied s 0 shelfCount)
+emptied-kept : (text s : List ℕ) → recallSize ≤ length s → Shelving text s (emptied s)
 emptied-kept text s l =
     record {
       shelved = record { each = λ k place m e. absurd (omega (arith, emptied-all s k l m, e)) };
@@ -257,7 +226,7 @@ one-kept : (text s : List ℕ) (place : ℕ) (i : Instance) (next : ℕ) → She
     → instanceAt text place ≡ ok i next → Shelving text s (keptOne text s place i next)
 unfolding keptOne
 one-kept text s place i next h l r =
-    by (ltb place (tokenAt text next .start) && leb (reachOf (length text)) (tokenAt text next .start - place))
+    by (leb (place + reachOf (length text)) (tokenAt text next .start))
     (shelf-put text s (shelfOf (length text) place) place i h l (shelf-low (length text) place) refl refl refl r)
   where
     by : {u : List ℕ} (b : Bool) → Shelving text s u → Shelving text s (if b then u else s)
@@ -276,31 +245,24 @@ at-kept text t s i h l = by (isSurelyShort (length text) t i)
     by true = keeps-none text s h
     by false = read (instanceAt text (placeIn (cellOf t i))) refl
 
-from-kept : (text t s : List ℕ) (i count : ℕ) → Shelved text s → recallSize ≤ length s → Shelving text s (keptFrom text t s i count)
-unfolding keptFrom
-from-kept text t s i zero h l = keeps-none text s h
-from-kept text t s i (suc count) h l =
-    let k = at-kept text t s i h l in
-    keeps-more k (from-kept text t (keptAt text t s i) (i + 1) count (k .shelved) (omega (arith, k .stay .same, l)))
+each-kept : (text : List ℕ) (f : List ℕ → ℕ → List ℕ) → ((s : List ℕ) (i : ℕ) → Shelved text s → recallSize ≤ length s → Shelving text s (f s i))
+    → (s : List ℕ) (i count : ℕ) → Shelved text s → recallSize ≤ length s → Shelving text s (eachFrom f s i count)
+unfolding eachFrom
+each-kept text f one s i zero h l = keeps-none text s h
+each-kept text f one s i (suc count) h l =
+    let k = one s i h l in
+    keeps-more k (each-kept text f one (f s i) (i + 1) count (k .shelved) (omega (arith, k .stay .same, l)))
 
-row-kept : (text t s : List ℕ) (map row : ℕ) → Shelved text s → recallSize ≤ length s → Shelving text s (keptRow text t s map row)
+row-kept : (text t : List ℕ) (map : ℕ) (s : List ℕ) (row : ℕ) → Shelved text s → recallSize ≤ length s → Shelving text s (keptRow text t map s row)
 unfolding keptRow
-row-kept text t s map row h l = by (eqb row map)
+row-kept text t map s row h l = by (eqb row map)
   where
-    by : (b : Bool) → Shelving text s (if b then s else keptFrom text t s (entriesAt + firstIn t row) (countIn t row))
+    by : (b : Bool) → Shelving text s (if b then s else eachFrom (keptAt text t) s (entriesAt + firstIn t row) (countIn t row))
     by true = keeps-none text s h
-    by false = from-kept text t s (entriesAt + firstIn t row) (countIn t row) h l
-
-rows-kept : (text t s : List ℕ) (map row count : ℕ) → Shelved text s → recallSize ≤ length s
-    → Shelving text s (keptRows text t s map row count)
-unfolding keptRows
-rows-kept text t s map row zero h l = keeps-none text s h
-rows-kept text t s map row (suc count) h l =
-    let k = row-kept text t s map row h l in
-    keeps-more k (rows-kept text t (keptRow text t s map row) map (row + 1) count (k .shelved) (omega (arith, k .stay .same, l)))
+    by false = each-kept text (keptAt text t) (at-kept text t) s (entriesAt + firstIn t row) (countIn t row) h l
 
 pub long-kept : (text t s : List ℕ) (e : Extent) → recallSize ≤ length s → Shelving text s (keptLong text t s e)
 unfolding keptLong
 long-kept text t s e l =
     let k = emptied-kept text s l in
-    keeps-more k (rows-kept text t (emptied s 0 shelfCount) (e .map) 0 (e .rows) (k .shelved) (omega (arith, k .stay .same, l)))
+    keeps-more k (each-kept text (keptRow text t (e .map)) (row-kept text t (e .map)) (emptied s) 0 (e .rows) (k .shelved) (omega (arith, k .stay .same, l)))

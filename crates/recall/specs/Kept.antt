@@ -2,7 +2,7 @@
 -- what the text gives (proofs/Kept, `long-kept`), and nothing else stands on which they are.
 use mathlib.Core.Bool.{Bool, _&&_}
 use mathlib.Core.List.{List}
-use Prim.Native.Nat.{ℕ, zero, suc, _+_, _-_, _/_, _%_}
+use Prim.Native.Nat.{ℕ, zero, suc, _+_, _/_, _%_}
 use lib.Dec.{eqb, leb, ltb}
 use lib.ListN.{length, set}
 use Rattle.basics.specs.Choice.{if_then_else_}
@@ -29,14 +29,13 @@ unfoldable pub isSurelyShort : ℕ → List ℕ → ℕ → Bool
 isSurelyShort bytes t i =
     let place = placeIn (cellOf t i) in
     let next = placeIn (cellOf t (i + 1)) in
-    ltb i (length t) && (ltb place next && ltb (next - place) (reachOf bytes))
+    ltb place next && ltb next (place + reachOf bytes)
 
 -- an instance, which ends at `next`, is kept if it is long: from its place to the word behind it
 unfoldable pub keptOne : List ℕ → List ℕ → ℕ → Instance → ℕ → List ℕ
 keptOne text s place instance next =
-    let end = tokenAt text next .start in
     let at = shelfAt (shelfOf (length text) place) in
-    if ltb place end && leb (reachOf (length text)) (end - place) then written (set s at (place + 1)) (at + 1) (instanceCells instance) else
+    if leb (place + reachOf (length text)) (tokenAt text next .start) then written (set s at (place + 1)) (at + 1) (instanceCells instance) else
     s
 
 -- what is read at a place is kept; a refusal is not
@@ -50,25 +49,22 @@ keptAt text t s i =
     let place = placeIn (cellOf t i) in
     if isSurelyShort (length text) t i then s else keptRead text s place (instanceAt text place)
 
--- those of `count` cells from an index on
-unfoldable pub keptFrom : List ℕ → List ℕ → List ℕ → ℕ → ℕ → List ℕ
-keptFrom text t s i zero = s
-keptFrom text t s i (suc count) = keptFrom text t (keptAt text t s i) (i + 1) count
+-- what is done for one number, done for `count` of them, one after another
+unfoldable pub eachFrom : (List ℕ → ℕ → List ℕ) → List ℕ → ℕ → ℕ → List ℕ
+eachFrom f s i zero = s
+eachFrom f s i (suc count) = eachFrom f (f s i) (i + 1) count
 
--- those of a definition, but for the map itself, whose instances are read once anyway
-unfoldable pub keptRow : List ℕ → List ℕ → List ℕ → ℕ → ℕ → List ℕ
-keptRow text t s map row = if eqb row map then s else keptFrom text t s (entriesAt + firstIn t row) (countIn t row)
+-- the instances of a definition, but for the map itself, whose instances are read once anyway
+unfoldable pub keptRow : List ℕ → List ℕ → ℕ → List ℕ → ℕ → List ℕ
+keptRow text t map s row = if eqb row map then s else eachFrom (keptAt text t) s (entriesAt + firstIn t row) (countIn t row)
 
--- those of `count` definitions from a row on
-unfoldable pub keptRows : List ℕ → List ℕ → List ℕ → ℕ → ℕ → ℕ → List ℕ
-keptRows text t s map row zero = s
-keptRows text t s map row (suc count) = keptRows text t (keptRow text t s map row) map (row + 1) count
+-- one shelf emptied, and all of them
+unfoldable pub emptiedAt : List ℕ → ℕ → List ℕ
+emptiedAt s shelf = set s (shelfAt shelf) 0
 
--- `count` shelves from one on, emptied
-unfoldable pub emptied : List ℕ → ℕ → ℕ → List ℕ
-emptied s shelf zero = s
-emptied s shelf (suc count) = emptied (set s (shelfAt shelf) 0) (shelf + 1) count
+abbrev pub emptied : List ℕ → List ℕ
+emptied s = eachFrom emptiedAt s 0 shelfCount
 
--- all shelves are emptied, and then the long ones of all instances kept
+-- all shelves are emptied, and then the long instances of all definitions but the map kept
 unfoldable pub keptLong : List ℕ → List ℕ → List ℕ → Extent → List ℕ
-keptLong text t s e = keptRows text t (emptied s 0 shelfCount) (e .map) 0 (e .rows)
+keptLong text t s e = eachFrom (keptRow text t (e .map)) (emptied s) 0 (e .rows)

@@ -3,7 +3,6 @@
 use mathlib.Core.Path.{_≡_}
 use mathlib.Core.List.{List}
 use Prim.Native.Nat.{ℕ, _+_, _*_, _<_}
-use lib.ListN.{length}
 use Rattle.basics.specs.Slices.{cellOf}
 use Rattle.parts.specs.Reading.{ok}
 use Rattle.parts.specs.Parts.{instanceAt}
@@ -33,13 +32,3 @@ pub record GivenAt (text : List ℕ) (place : ℕ) (i : Instance) : Type 0 where
 -- a shelf is empty, or holds what the text gives at its place
 pub record Shelved (text s : List ℕ) : Type 0 where
   pub each : (k place : ℕ) → k < shelfCount → cellOf s (shelfAt k) ≡ place + 1 → GivenAt text place (instanceIn s (shelfAt k + 1))
-
--- the shapes stay, and the length
-pub record ShapesStay (s u : List ℕ) : Type 0 where
-  pub same : length u ≡ length s
-  pub cells : (j : ℕ) → j < shapesSize → cellOf u j ≡ cellOf s j
-
--- what a pass that keeps instances leaves
-pub record Shelving (text s u : List ℕ) : Type 0 where
-  pub shelved : Shelved text u
-  pub stay : ShapesStay s u

@@ -297,7 +297,7 @@ pub fn child_at(text: &[u8], cells: &[u64], shapes: &[u64], i: usize) -> ChildRe
 
 // Empties all shelves.
 fn clear_shelves(shapes: &mut [u64])
-    ensures { λ _. ⌜ now (shapes .exit) ≡ emptied (now (shapes .entry)) 0 shelfCount ⌝ }
+    ensures { λ _. ⌜ now (shapes .exit) ≡ emptied (now (shapes .entry)) ⌝ }
 {
     let mut shelf = 0;
     while shelf < SHELF_COUNT {
@@ -342,7 +342,7 @@ fn keep_at(text: &[u8], cells: &[u64], shapes: &mut [u64], i: usize)
 // Keeps the long ones of a definition's instances; those of the map itself are read once anyway.
 fn keep_row(text: &[u8], cells: &[u64], shapes: &mut [u64], extent: Extent, row: usize)
     requires { ⌜ (row < definitionLimit) × (firstIn (now cells) row + countIn (now cells) row ≤ instanceRoom) ⌝ }
-    ensures { λ _. ⌜ now (shapes .exit) ≡ keptRow (now (text .entry)) (now (cells .entry)) (now (shapes .entry)) (extent .map) row ⌝ }
+    ensures { λ _. ⌜ now (shapes .exit) ≡ keptRow (now (text .entry)) (now (cells .entry)) (extent .map) (now (shapes .entry)) row ⌝ }
 {
     if row == extent.map {
         return;
@@ -355,7 +355,7 @@ fn keep_row(text: &[u8], cells: &[u64], shapes: &mut [u64], extent: Extent, row:
     }
 }
 
-// Keeps the long ones of all instances, on shelves that are empty before. The shapes stay.
+// Empties all shelves, and keeps the long instances of all definitions but the map. The shapes stay.
 pub fn keep_long_instances(text: &[u8], cells: &[u64], shapes: &mut [u64], extent: Extent)
     requires { ⌜ Ready (now text) (now cells) extent ⌝ }
     ensures { λ _. ⌜ now (shapes .exit) ≡ keptLong (now (text .entry)) (now (cells .entry)) (now (shapes .entry)) extent ⌝ }

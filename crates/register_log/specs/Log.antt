@@ -20,8 +20,8 @@ depthBound = 16
 abbrev pub placeBound : ℕ
 placeBound = 2 ^ 21
 
-abbrev pub stepIndices : ℕ
-stepIndices = 2 ^ 22
+abbrev pub stepIndexBound : ℕ
+stepIndexBound = 2 ^ 22
 
 unfoldable pub headOf : ℕ → ℕ → ℕ → ℕ
 headOf address row depth = address + addressBound * (row + definitionLimit * depth)
@@ -37,7 +37,7 @@ headDepth x = x / (addressBound * definitionLimit) % depthBound
 
 -- a step: its name's start and end, and its index and one more, or 0, each cut to its bits
 unfoldable pub stepOf : ℕ → ℕ → ℕ → ℕ
-stepOf start end index = start % placeBound + placeBound * (end % placeBound + placeBound * (index % stepIndices))
+stepOf start end index = start % placeBound + placeBound * (end % placeBound + placeBound * (index % stepIndexBound))
 
 unfoldable pub stepStart : ℕ → ℕ
 stepStart x = x % placeBound

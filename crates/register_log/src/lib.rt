@@ -9,22 +9,21 @@ pub const LOG_WIDTH: usize = 1 + basics::NEST_LIMIT;
 
 pub const LOG_SIZE: usize = basics::REGISTER_LIMIT * LOG_WIDTH;
 
-// 2^41, above every address, which is cut at 2^40; and above every path's length.
+// In a head: 2^41, above every address, which is cut at 2^40; above every type's row; above every path's length; and what a length is
+// multiplied by.
 const ADDRESS_BOUND: u64 = 2199023255552;
 
 const ROW_BOUND: u64 = basics::DEFINITION_LIMIT as u64;
 
 const DEPTH_BOUND: u64 = 16;
 
-// What a path's length is multiplied by in a head.
 const LENGTHS_FROM: u64 = ADDRESS_BOUND * ROW_BOUND;
 
-// 2^21, above every place in a text; and 2^22, above every index.
+// In a step: 2^21, above every place in a text; 2^22, above every index and one more; and what an index is multiplied by.
 const PLACE_BOUND: u64 = 2097152;
 
-const STEP_INDICES: u64 = 4194304;
+const STEP_INDEX_BOUND: u64 = 4194304;
 
-// What an index is multiplied by in a step.
 const INDICES_FROM: u64 = PLACE_BOUND * PLACE_BOUND;
 
 // The head of a register.
@@ -59,7 +58,7 @@ pub fn step_of(start: usize, end: usize, index: u64) -> u64
     ensures { λ r. ⌜ r ≡ stepOf start end index ⌝ }
 {
     start as u64 % PLACE_BOUND
-        + PLACE_BOUND * (end as u64 % PLACE_BOUND + PLACE_BOUND * (index % STEP_INDICES))
+        + PLACE_BOUND * (end as u64 % PLACE_BOUND + PLACE_BOUND * (index % STEP_INDEX_BOUND))
 }
 
 pub fn step_start(step: u64) -> usize

@@ -12,51 +12,28 @@ use Rattle.cells.specs.Definitions.{Definition, definitionOf}
 use Rattle.rows.specs.Rows.{padded, indexCode, indices, nameCell, nameCells, registerCells, pathCells}
 use Rattle.map_rules.specs.Visits.{PathStep, Visit}
 use Rattle.register_log.specs.Log.{logWidth, headAddress, headRow, headDepth, stepStart, stepEnd, stepIndex}
-use Rattle.register_log.proofs.Laws.{step-start, step-end, step-index}
-use Rattle.map_walk.specs.Runs.{stepNumber, stepCells}
+use Rattle.register_log.proofs.Laws.{step-start, step-end, step-index, no-step}
+use Rattle.map_walk.specs.Runs.{stepNumber, stepNumbers}
 use Rattle.map_walk.specs.Walks.{LogRow}
 use Rattle.basics.specs.All.{All, all-none, all-more}
 use Rattle.overlaps.proofs.Visits.{StepFits, padded-cell}
 use Rattle.row_writer.specs.Entries.{bytesIn, stepsOf, entryOf}
 use Rattle.row_writer.specs.Writes.{namesIn, indicesIn, numbersIn}
 use Rattle.rows.proofs.Padded.{length-padded}
+use Rattle.row_laws.proofs.Cells.{padded-append, padded-none}
 
--- cells of which the first are given
-pub padded-front : (xs : List ℕ) (m : ℕ) (ys : List ℕ) {n : ℕ} → n ≡ length xs + m → padded n (xs ++ ys) ≡ xs ++ padded m ys
-unfolding padded
-padded-front [] m ys {n} e = let z : n ≡ m = omega (arith, e) in ap (λ (k : ℕ). padded k ys) z
-padded-front (x ∷ xs) m ys {n} e =
-    let z : n ≡ suc (length xs + m) = omega (arith, e) in
-    ap (λ (k : ℕ). padded k (x ∷ (xs ++ ys))) z ∙ ap (λ (zs : List ℕ). x ∷ zs) (padded-front xs m ys refl)
-
-padded-none : (n m : ℕ) {k : ℕ} → k ≡ n + m → padded k [] ≡ padded n [] ++ padded m []
-unfolding padded
-padded-none zero m {k} e = let z : k ≡ m = omega (arith, e) in ap (λ (j : ℕ). padded j []) z
-padded-none (suc n) m {k} e =
-    let z : k ≡ suc (n + m) = omega (arith, e) in
-    ap (λ (j : ℕ). padded j []) z ∙ ap (λ (zs : List ℕ). 0 ∷ zs) (padded-none n m refl)
-
+-- a name's cells, and what stands behind them
 padded-name : (name : List ℕ) (m : ℕ) (ys : List ℕ) {n : ℕ} → n ≡ 32 + m → padded n (nameCell name ++ ys) ≡ nameCell name ++ padded m ys
-padded-name name m ys e = padded-front (nameCell name) m ys (omega (arith, e, length-padded 32 name))
+padded-name name m ys {n} e =
+    let z : n ≡ length (nameCell name) + m = omega (arith, e, length-padded 32 name) in
+    ap (λ (k : ℕ). padded k (nameCell name ++ ys)) z ∙ padded-append (nameCell name) ys m
 
 -- the numbers of `n` steps from an index on are those of a path
 record StepsLogged (log : List ℕ) (at n : ℕ) (path : List PathStep) : Type 0 where
-  each : (k : ℕ) → k < n → cellOf log (at + k) ≡ cellOf (stepCells path) k
-
-none-cell : (k : ℕ) → cellOf (stepCells []) k ≡ 0
-unfolding stepCells
-none-cell k = refl
-
-first-cell : (s : PathStep) (path : List PathStep) → cellOf (stepCells (s ∷ path)) 0 ≡ stepNumber s
-unfolding stepCells
-first-cell s path = refl
-
-later-cell : (s : PathStep) (path : List PathStep) (k : ℕ) → cellOf (stepCells (s ∷ path)) (suc k) ≡ cellOf (stepCells path) k
-unfolding stepCells
-later-cell s path k = refl
+  each : (k : ℕ) → k < n → cellOf log (at + k) ≡ cellOf (stepNumbers path) k
 
 module _ {log : List ℕ} {at n : ℕ} where
-  steps-first : {path : List PathStep} → StepsLogged log at (suc n) path → cellOf log at ≡ cellOf (stepCells path) 0
+  steps-first : {path : List PathStep} → StepsLogged log at (suc n) path → cellOf log at ≡ cellOf (stepNumbers path) 0
   steps-first s = let z : at ≡ at + 0 = omega arith in ap (cellOf log) z ∙ s .each 0 (omega arith)
 
   steps-none : StepsLogged log at (suc n) [] → StepsLogged log (at + 1) n []
@@ -64,7 +41,7 @@ module _ {log : List ℕ} {at n : ℕ} where
       record {
         each = λ k h.
             let z : at + 1 + k ≡ at + suc k = omega arith in
-            ap (cellOf log) z ∙ s .each (suc k) (omega (arith, h)) ∙ none-cell (suc k) ∙ sym (none-cell k);
+            ap (cellOf log) z ∙ s .each (suc k) (omega (arith, h));
       }
 
   steps-rest : {step : PathStep} {path : List PathStep} → StepsLogged log at (suc n) (step ∷ path) → StepsLogged log (at + 1) n path
@@ -72,7 +49,7 @@ module _ {log : List ℕ} {at n : ℕ} where
       record {
         each = λ k h.
             let z : at + 1 + k ≡ at + suc k = omega arith in
-            ap (cellOf log) z ∙ s .each (suc k) (omega (arith, h)) ∙ later-cell step path k;
+            ap (cellOf log) z ∙ s .each (suc k) (omega (arith, h));
       }
 
 -- what a step's number holds
@@ -85,13 +62,9 @@ module _ (s : PathStep) (f : StepFits s) where
       ap (λ (n : ℕ). bytesOf text n (stepEnd (stepNumber s))) (step-start (s .name .start) (s .name .end) (indexCode (s .index)) (f .start))
       ∙ ap (bytesOf text (s .name .start)) (step-end (s .name .start) (s .name .end) (indexCode (s .index)) (f .end))
 
-no-index : stepIndex 0 ≡ 0
-unfolding stepIndex
-no-index = refl
-
 no-bytes : (text : List ℕ) → bytesOf text (stepStart 0) (stepEnd 0) ≡ []
-unfolding bytesOf stepStart stepEnd
-no-bytes text = refl
+unfolding bytesOf
+no-bytes text = rw (no-step .0, no-step .1)
 
 steps-length : (text : List ℕ) (path : List PathStep) → length (stepsOf text path) ≡ length path
 unfolding stepsOf
@@ -102,10 +75,10 @@ steps-indices : (text log : List ℕ) (at n : ℕ) {path : List PathStep} → Al
 unfolding stepsOf indices indicesIn padded
 steps-indices text log at zero f s = refl
 steps-indices text log at (suc n) all-none s =
-    ap (λ (x : ℕ). stepIndex x ∷ indicesIn log (at + 1) n) (steps-first s ∙ none-cell 0) ∙ ap (λ (x : ℕ). x ∷ indicesIn log (at + 1) n) no-index
+    ap (λ (x : ℕ). stepIndex x ∷ indicesIn log (at + 1) n) (steps-first s) ∙ ap (λ (x : ℕ). x ∷ indicesIn log (at + 1) n) (no-step .2)
     ∙ ap (λ (xs : List ℕ). 0 ∷ xs) (steps-indices text log (at + 1) n all-none (steps-none s))
 steps-indices text log at (suc n) (all-more {x = step} {xs = path} f fs) s =
-    ap (λ (x : ℕ). stepIndex x ∷ indicesIn log (at + 1) n) (steps-first s ∙ first-cell step path) ∙ ap (λ (x : ℕ). x ∷ indicesIn log (at + 1) n) (own-index step f)
+    ap (λ (x : ℕ). stepIndex x ∷ indicesIn log (at + 1) n) (steps-first s) ∙ ap (λ (x : ℕ). x ∷ indicesIn log (at + 1) n) (own-index step f)
     ∙ ap (λ (xs : List ℕ). indexCode (step .index) ∷ xs) (steps-indices text log (at + 1) n fs (steps-rest s))
 
 no-cells : (xs : List ℕ) → [] ≡ padded 0 xs
@@ -120,21 +93,21 @@ unfolding stepsOf nameCells namesIn
 steps-names text log at zero {path} f s = no-cells (nameCells (stepsOf text path))
 steps-names text log at (suc n) all-none s =
     let m : 32 * suc n ≡ 32 + 32 * n = omega arith in
-    ap (λ (x : List ℕ). nameCell x ++ namesIn text log (at + 1) n) (ap (bytesAt text) (steps-first s ∙ none-cell 0) ∙ no-bytes text)
+    ap (λ (x : List ℕ). nameCell x ++ namesIn text log (at + 1) n) (ap (bytesAt text) (steps-first s) ∙ no-bytes text)
     ∙ ap (λ (xs : List ℕ). nameCell [] ++ xs) (steps-names text log (at + 1) n all-none (steps-none s))
-    ∙ sym (padded-none 32 (32 * n) m)
+    ∙ sym (ap (λ (k : ℕ). padded k []) m ∙ padded-none 32 (32 * n))
 steps-names text log at (suc n) (all-more {x = step} {xs = path} f fs) s =
     let m : 32 * suc n ≡ 32 + 32 * n = omega arith in
     let name : List ℕ = bytesIn text (step .name) in
     let others : List ℕ = nameCells (stepsOf text path) in
-    ap (λ (x : List ℕ). nameCell x ++ namesIn text log (at + 1) n) (ap (bytesAt text) (steps-first s ∙ first-cell step path) ∙ own-bytes step f text)
+    ap (λ (x : List ℕ). nameCell x ++ namesIn text log (at + 1) n) (ap (bytesAt text) (steps-first s) ∙ own-bytes step f text)
     ∙ ap (λ (xs : List ℕ). nameCell name ++ xs) (steps-names text log (at + 1) n fs (steps-rest s))
     ∙ sym (padded-name name (32 * n) others m)
 
 -- a register's rows, from the log
 module _ (text log : List ℕ) (i : ℕ) (v : Visit) (r : LogRow log i v) (f : All StepFits (v .path)) where
   log-steps : StepsLogged log (i * logWidth + 1) nestLimit (v .path)
-  log-steps = record { each = λ k h. r .steps k h ∙ padded-cell nestLimit (stepCells (v .path)) k h }
+  log-steps = record { each = λ k h. r .steps k h ∙ padded-cell nestLimit (stepNumbers (v .path)) k h }
 
   pub log-names : (table : List Definition) (title : List ℕ) → nameCell title ++ namesIn text log (i * logWidth + 1) nestLimit ≡ pathCells title (entryOf text table v)
   unfolding pathCells

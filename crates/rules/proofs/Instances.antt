@@ -22,7 +22,8 @@ use Rattle.cells.specs.Definitions.{Child, Definition, namesOf}
 use Rattle.cells.specs.Relation.{IsEntry, Block}
 use Rattle.cells.proofs.Laws.{entry-place, entry-row}
 use Rattle.name_tree.specs.declared.Spot.{Spot}
-use Rattle.name_tree.specs.Tree.{isEntryNamed, someNamed, Linked, seek, Finds, grown}
+use Rattle.name_tree.specs.Tree.{isEntryNamed, Linked, seek, grown}
+use Rattle.name_tree.proofs.Found.{someNamed, Finds}
 use Rattle.name_tree.proofs.Finding.{seek-finds}
 use Rattle.name_tree.proofs.Names.{same-own, bytes-short, entry-named, block-named}
 use Rattle.parts.proofs.InstanceName.{instance-own}

@@ -1,4 +1,4 @@
--- To the instance that the loop is at the name comes from the root; what it meets from the root it meets from there.
+-- What the name comes to from the instance that the loop is at is what it comes to from the root.
 use borrow.Author.Needs.{needs}
 use Prim.Native.Nat.{_-_}
 use Rattle.name_tree.proofs.Laws.{below-falls, Seeking, seek-start, seek-taken, seek-free, seek-on, seek-none}

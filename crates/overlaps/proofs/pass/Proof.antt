@@ -41,9 +41,9 @@ pass-spec =
     (λ c.
     let unwritten = c .before .before in
     let unread = unwritten .before .before in
-    let spanned = unread .before .before in
-    let entered = spanned .before .before .before .before in
-    passing-on _ _ _ (entered .loop .inv) (spanned .before .if1 .left) (spanned .stretch-at .ensures) (unread .before .reaches .ensures)
+    let stretched = unread .before .before in
+    let entered = stretched .before .before .before .before in
+    passing-on _ _ _ (entered .loop .inv) (stretched .before .if1 .left) (stretched .stretch-at .ensures) (unread .before .reaches .ensures)
     (unread .if2 .left) (unwritten .before .reaches2 .ensures) (unwritten .if3 .left) (c .before .side-after .ensures)
     (c .side-after2 .ensures))  -- loop-again-2
     (λ c. search (lined, passing-end)))  -- returns-3

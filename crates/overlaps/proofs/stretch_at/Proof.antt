@@ -1,6 +1,6 @@
--- The span is that of the register's plot, with the accesses of the fields of its type.
+-- The stretch is that of the register's plot, with the accesses of the fields of its type.
 use borrow.Author.Needs.{needs}
-use Rattle.overlaps.proofs.Plots.{index-few, plot-low, plot-sum, span-read}
+use Rattle.overlaps.proofs.Plots.{index-few, plot-low, plot-sum, stretch-read}
 use Rattle.overlaps.proofs.stretch_at.Statement.{statement}
 use Rattle.overlaps.proofs.stretch_at.Tie as tie
 
@@ -14,4 +14,4 @@ stretch-at-spec =
     (λ c κs. search needs)  -- access-code-requires-2
     (λ c κs. search (needs, plot-low))  -- has-access-requires-2
     (λ c. search (needs, plot-sum))  -- add-t10
-    (λ c. search span-read))  -- returns
+    (λ c. search stretch-read))  -- returns

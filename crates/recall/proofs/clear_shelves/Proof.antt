@@ -2,12 +2,13 @@
 use borrow.Author.Needs.{needs}
 use Prim.Native.Nat.{_-_}
 use Rattle.recall.specs.Shelves.{shelfCount}
-use Rattle.recall.proofs.Kept.{ShelvesLeft, shelves-start, shelves-next, shelves-end}
+use Rattle.recall.specs.Kept.{emptiedAt}
+use Rattle.recall.proofs.Kept.{Left, shelves-start, shelves-next, shelves-end}
 use Rattle.recall.proofs.clear_shelves.Statement.{statement}
 use Rattle.recall.proofs.clear_shelves.Tie as tie
 
 abbrev Inv-loop : tie.InvT-loop
-Inv-loop shapes₀ shelf₀ shapes shelf = ShelvesLeft shapes₀ shapes shelf
+Inv-loop shapes₀ shelf₀ shapes shelf = Left emptiedAt shapes₀ shapes 0 shelf shelfCount
 
 abbrev μ-loop : tie.MeasureT-loop
 μ-loop shapes₀ shelf₀ shapes shelf = shelfCount - shelf

@@ -2,12 +2,13 @@
 use borrow.Author.Needs.{needs}
 use Prim.Native.Nat.{_-_}
 use Rattle.sizes.proofs.Laws.{ready-low, ready-within}
-use Rattle.recall.proofs.Kept.{RowsLeft, rows-start, rows-next, rows-end}
+use Rattle.recall.specs.Kept.{keptRow}
+use Rattle.recall.proofs.Kept.{Left, left-next, rows-start, rows-end}
 use Rattle.recall.proofs.keep_long_instances.Statement.{statement}
 use Rattle.recall.proofs.keep_long_instances.Tie as tie
 
 abbrev Inv-loop : tie.InvT-loop
-Inv-loop text cells shapes₀ extent row₀ shapes row = RowsLeft text cells shapes₀ shapes (extent .map) row (extent .rows)
+Inv-loop text cells shapes₀ extent row₀ shapes row = Left (keptRow text cells (extent .map)) shapes₀ shapes 0 row (extent .rows)
 
 abbrev μ-loop : tie.MeasureT-loop
 μ-loop text cells shapes₀ extent row₀ shapes row = extent .rows - row
@@ -23,6 +24,6 @@ keep-long-instances-spec =
     (λ c κs. search (needs, ready-low, ready-within))  -- keep-row-requires
     (λ c. search needs)  -- add-row
     (λ c. search needs)  -- loop-less
-    (λ c. search rows-next)  -- loop-again
+    (λ c. search left-next)  -- loop-again
     (λ c. search needs)  -- same-length
     (λ c. search rows-end))  -- returns

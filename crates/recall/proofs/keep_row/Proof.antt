@@ -1,12 +1,13 @@
 -- Keeping the instances from this one on comes to the same as keeping all of the row's.
 use borrow.Author.Needs.{needs}
 use Prim.Native.Nat.{_-_}
-use Rattle.recall.proofs.Kept.{CellsLeft, cells-start, cells-next, cells-end, cells-none}
+use Rattle.recall.specs.Kept.{keptAt}
+use Rattle.recall.proofs.Kept.{Left, left-next, cells-start, cells-end, cells-none}
 use Rattle.recall.proofs.keep_row.Statement.{statement}
 use Rattle.recall.proofs.keep_row.Tie as tie
 
 abbrev Inv-loop : tie.InvT-loop
-Inv-loop text cells shapes₀ row span i₀ shapes i = CellsLeft text cells shapes₀ shapes (span .from) i (span .to)
+Inv-loop text cells shapes₀ row span i₀ shapes i = Left (keptAt text cells) shapes₀ shapes (span .from) i (span .to)
 
 abbrev μ-loop : tie.MeasureT-loop
 μ-loop text cells shapes₀ row span i₀ shapes i = span .to - i
@@ -23,6 +24,6 @@ keep-row-spec =
     (λ c κs. search needs)  -- keep-at-requires
     (λ c. search needs)  -- add-i
     (λ c. search needs)  -- loop-less
-    (λ c. search cells-next)  -- loop-again
+    (λ c. search left-next)  -- loop-again
     (λ c. search needs)  -- same-length
     (λ c. search cells-end))  -- returns-2
