@@ -1,4 +1,6 @@
 // Reset, read, write and retry over lawful rows and a store: a lent slice of numbers, one for each field row.
+#![tactic(auto)]
+
 ghost use Rattle.std.specs.Prelude.{◌≡◌, ◌++◌, ◌+◌, ◌/◌, ◌≤◌, ◌<◌, length, drop};
 ghost use Rattle.bits.specs.Bits.{number};
 ghost use Rattle.rows.specs.Rows.{tables};
@@ -15,14 +17,14 @@ use model::{Access, Answer, View};
 use rows::RegisterRow;
 
 // What reset answers: a refusal's number, or how many numbers it wrote.
-#[derive(Drop)]
+#[derive(Clone, Copy)]
 pub enum Restored {
     Refused(u8),
     Written(usize),
 }
 
 // Whether an access may be sent again: a refusal's number, or whether made twice it does what it does made once.
-#[derive(Drop)]
+#[derive(Clone, Copy)]
 pub enum Retried {
     Refused(u8),
     Safe,

@@ -1,5 +1,7 @@
 // Runs the access cases of standard input and writes a line for each command. A case: a little-endian u32 length and the text of a map;
 // a u32 count, and so many commands of four little-endian u64 numbers each. tests/access_cases.py makes the cases.
+#![tactic(auto)]
+
 ghost use Rattle.std.specs.Prelude.{◌<◌, ◌≤◌};
 
 use access::{Restored, Retried};
@@ -26,7 +28,7 @@ const UNTOUCHED: u64 = 77;
 const PAST: usize = 2;
 
 // The part of each table, and of the store, that is lent to a call.
-#[derive(Drop)]
+#[derive(Clone, Copy)]
 struct Lengths {
     registers: usize,
     paths: usize,
@@ -36,7 +38,7 @@ struct Lengths {
 }
 
 // A command: what to do, and three numbers.
-#[derive(Drop)]
+#[derive(Clone, Copy)]
 struct Command {
     code: u64,
     a: u64,

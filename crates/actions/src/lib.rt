@@ -1,9 +1,11 @@
 // What an access does to one stored bit: one decision over the write-effect code, with the zero-triggered and unconditional ones.
+#![tactic(auto)]
+
 ghost use Rattle.std.specs.Prelude.{◌≡◌};
 ghost use Rattle.actions.specs.Actions.{apply, on_one, on_zero, copied, write_action, read_action};
 
 // What an access does to one stored bit.
-#[derive(Drop)]
+#[derive(Clone, Copy)]
 pub enum Action {
     Kept,
     Cleared,

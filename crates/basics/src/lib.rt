@@ -1,4 +1,6 @@
 // What every stage needs: a number that may be given, a fault that may be found, the numbers of a slice, and the limits by name.
+#![tactic(auto)]
+
 ghost use Rattle.std.specs.Prelude.{◌||◌, ◌≡◌, set};
 ghost use Rattle.basics.specs.Given.{is_given, or_else, given_from, flag_of, number_of};
 ghost use Rattle.basics.specs.Judged.{first_of};
@@ -42,7 +44,7 @@ pub const NAME_WIDTH: usize = 32;
 pub const PATH_ROW_WIDTH: usize = 288;
 
 // A number that may be given: a property's, an alignment's, an index.
-#[derive(Drop)]
+#[derive(Clone, Copy)]
 pub enum Given {
     Nothing,
     Number(u64),
@@ -97,7 +99,7 @@ pub fn number_of(given: Given) -> u64
 }
 
 // No fault, or a refusal: the broken rule's number and its place.
-#[derive(Drop)]
+#[derive(Clone, Copy)]
 pub enum Fault {
     None,
     Refused(u8, usize),

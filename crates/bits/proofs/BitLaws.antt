@@ -4,7 +4,7 @@ use mathlib.Core.Bool.{Bool, true, false, not, ◌||◌, ◌&&◌}
 use Prim.Native.Nat.{ℕ, zero, suc, ◌+◌, ◌-◌, ◌*◌, ◌/◌, ◌%◌, ◌^◌, ◌<◌, max, min}
 use native.Mathlib.Nat.{not-suc-le-zero, zero-add, mul_assoc, add-mul-div_right, add-mul-mod_self_right, mod-eq_of_lt, div-eq_of_lt, mod-lt, zero-lt-suc, pow-suc, zero-max, max-zero, suc-max-suc, min-le_left, zero-min, min-zero, suc-min-suc, mod-one}
 use native.Mathlib.Omega.{arith}
-use native.Mathlib.Numerals.{add_one, one-add}
+use native.Mathlib.Numerals.{add-one, one-add}
 use native.Mathlib.Decide.{dec_lt}
 use lib.Arith.{digits_mod}
 use lib.Dec.{eqb, eqb-suc-zero}
@@ -161,7 +161,7 @@ and_number n f g =
 pub number_more : (f : ℕ → Bool) (i acc r : ℕ) (b : Bool) → acc ≡ number i f → b ≡ f i → r ≡ acc + digit b * 2 ^ i → r ≡ number (i + 1) f
 unfolding number
 number_more f i acc r b p q e =
-    e ∙ ap₂ (λ (x : ℕ) (t : Bool). x + digit t * 2 ^ i) p q ∙ ap (λ (k : ℕ). number k f) (sym (add_one i))
+    e ∙ ap₂ (λ (x : ℕ) (t : Bool). x + digit t * 2 ^ i) p q ∙ ap (λ (k : ℕ). number k f) (sym (add-one i))
 
 pub number-below : (f : ℕ → Bool) (i acc : ℕ) → acc ≡ number i f → acc < 2 ^ i
 number-below f i acc p = subst (λ (x : ℕ). x < 2 ^ i) (sym p) (number_lt i f)

@@ -1,4 +1,6 @@
 // The bits of a number, and the number of some bits: once over the width, used at 8, 16, 32 and 64.
+#![tactic(auto)]
+
 ghost use Rattle.std.specs.Prelude.{◌≡◌, ◌+◌, ◌*◌, ◌^◌, ◌<◌};
 ghost use Rattle.bits.specs.Bits.{bit, digit};
 

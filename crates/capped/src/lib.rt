@@ -1,4 +1,6 @@
 // Arithmetic on sizes and offsets, cut at a cap above every address, so that nothing wraps.
+#![tactic(auto)]
+
 ghost use Rattle.std.specs.Prelude.{◌≡◌, true, ◌+◌, ◌*◌, ◌≤◌};
 ghost use Rattle.property_values.specs.Settings.{is_alignment};
 ghost use Rattle.capped.specs.Offsets.{cap, factor_bound, cut, larger, raised, common_multiple, power_above};

@@ -1,4 +1,6 @@
 // What the test programs share: reading the parts of a pack, each behind its little-endian u32 length, and writing their lines.
+#![tactic(auto)]
+
 ghost use Rattle.std.specs.Prelude.{◌≡◌, ◌<◌};
 ghost use Rattle.io.specs.Counts.{IsPrefixLen};
 
@@ -12,14 +14,14 @@ pub const LONGEST_TEXT: usize = 65537;
 pub const MOST_CASES: u64 = 1000000;
 
 // The length of the next part, if a length is there.
-#[derive(Drop)]
+#[derive(Clone, Copy)]
 pub enum Length {
     Of(usize),
     Missing,
 }
 
 // A part that was read to the start of a room: how long it is, and whether all of it was there.
-#[derive(Drop)]
+#[derive(Clone, Copy)]
 pub struct InputPart {
     pub whole: bool,
     pub length: usize,

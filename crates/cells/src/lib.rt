@@ -1,5 +1,7 @@
 // The cells in which the compiler keeps what it knows of a text: a row for each definition, then the instances, those of open bodies from
 // the front and those of closed definitions from the end.
+#![tactic(auto)]
+
 ghost use Rattle.std.specs.Prelude.{◌≡◌, ◌+◌, ◌-◌, ◌*◌, ◌≤◌, ◌<◌};
 ghost use Rattle.basics.specs.Limits.{definition_limit};
 ghost use Rattle.basics.specs.Slices.{cell_of, written};
@@ -33,7 +35,7 @@ const LINK_BOUND: u64 = 262144;
 const ENTRY_LINKS: u64 = ENTRY_PLACES * ENTRY_ROWS;
 
 // The numbers of a component: its kind's, and up to six of its own.
-#[derive(Drop)]
+#[derive(Clone, Copy)]
 pub struct Values {
     pub kind: u64,
     pub a: u64,
@@ -45,7 +47,7 @@ pub struct Values {
 }
 
 // A row: a component, the first of its instances and how many, its name, and the type declared before it.
-#[derive(Drop)]
+#[derive(Clone, Copy)]
 pub struct Row {
     pub values: Values,
     pub first: u64,
@@ -55,14 +57,14 @@ pub struct Row {
 }
 
 // The cells of a definition's instances: from one up to another.
-#[derive(Drop)]
+#[derive(Clone, Copy)]
 pub struct Span {
     pub from: usize,
     pub to: usize,
 }
 
 // The instance of a cell, behind its type's row; or the refusal that the text gives at the cell's place.
-#[derive(Drop)]
+#[derive(Clone, Copy)]
 pub enum ChildReading {
     Done(usize, Instance),
     Refused(u8, usize),

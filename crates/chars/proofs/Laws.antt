@@ -3,7 +3,7 @@ use mathlib.Core.Bool.{Bool, true, false, ◌||◌, ◌&&◌}
 use mathlib.Core.Path.{◌≡◌, refl, sym, ap, ◌∙◌}
 use mathlib.Core.List.{List, [], ◌∷◌}
 use Prim.Native.Nat.{ℕ, suc, ◌+◌, ◌-◌, ◌<◌, ◌≤◌}
-use native.Mathlib.Numerals.{add_one}
+use native.Mathlib.Numerals.{add-one}
 use native.Mathlib.Omega.{arith}
 use lib.Dec.{eqb, leb}
 use lib.ListN.{length, drop, get_or, take, drop_of_length-le, length-drop}
@@ -32,7 +32,7 @@ module _ (a k : ℕ) (q : Bool) where
 pub ruleset ors = (or_yes, or_no, or_equal, or_other, refl)
 
 pub drop_next : (t : List ℕ) (i : ℕ) → i < length t → drop i t ≡ get_or t i 0 ∷ drop (i + 1) t
-drop_next t i h = rw (add_one, drop-cons t i 0)
+drop_next t i h = rw (add-one, drop-cons t i 0)
 
 -- a run of bytes in the class P, to the place x
 module _ (P : ℕ → Bool) (t : List ℕ) (i : ℕ) {x : ℕ} (at : run_end P t i ≡ x) where

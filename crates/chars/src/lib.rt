@@ -1,11 +1,13 @@
 // Bytes: their classes, runs of one class, and the equality of byte strings.
+#![tactic(auto)]
+
 ghost use Rattle.std.specs.Prelude.{◌≡◌, get_or, drop};
 ghost use Rattle.chars.specs.Ascii.{is_within, is_blank, is_line_end, is_letter, is_name_byte, is_number_byte, is_hex_digit, is_digit, is_spaced_digit, in_class};
 ghost use Rattle.chars.specs.Run.{run_end, every};
 ghost use Rattle.chars.specs.Same.{same_bytes};
 
 // The radix of a number's digits.
-#[derive(Drop)]
+#[derive(Clone, Copy)]
 pub enum Radix {
     Binary,
     Decimal,
@@ -13,7 +15,7 @@ pub enum Radix {
 }
 
 // The bytes that a run holds.
-#[derive(Drop)]
+#[derive(Clone, Copy)]
 pub enum Class {
     // letters, digits and underscores
     Name,
@@ -25,6 +27,7 @@ pub enum Class {
     Spaced(Radix),
 }
 
+#[tactic(auto, unfolding(crate::specs::Ascii::is_within))]
 pub fn within(b: u8, low: u8, high: u8) -> bool
     ensures { result ≡ is_within low high b }
 {
@@ -34,6 +37,7 @@ pub fn within(b: u8, low: u8, high: u8) -> bool
     b <= high
 }
 
+#[tactic(auto, unfolding(crate::specs::Ascii::is_blank))]
 pub fn is_blank(b: u8) -> bool
     ensures { result ≡ is_blank b }
 {
@@ -49,6 +53,7 @@ pub fn is_blank(b: u8) -> bool
     b == b'\n'
 }
 
+#[tactic(auto, unfolding(crate::specs::Ascii::is_line_end))]
 pub fn is_line_end(b: u8) -> bool
     ensures { result ≡ is_line_end b }
 {
@@ -58,6 +63,7 @@ pub fn is_line_end(b: u8) -> bool
     b == b'\r'
 }
 
+#[tactic(auto, unfolding(crate::specs::Ascii::is_letter))]
 pub fn is_letter(b: u8) -> bool
     ensures { result ≡ is_letter b }
 {
@@ -70,6 +76,7 @@ pub fn is_letter(b: u8) -> bool
     b == b'_'
 }
 
+#[tactic(auto, unfolding(crate::specs::Ascii::is_name_byte))]
 pub fn is_name_byte(b: u8) -> bool
     ensures { result ≡ is_name_byte b }
 {
@@ -79,6 +86,7 @@ pub fn is_name_byte(b: u8) -> bool
     within(b, b'0', b'9')
 }
 
+#[tactic(auto, unfolding(crate::specs::Ascii::is_number_byte))]
 fn is_number_byte(b: u8) -> bool
     ensures { result ≡ is_number_byte b }
 {
@@ -88,6 +96,7 @@ fn is_number_byte(b: u8) -> bool
     b == b'\''
 }
 
+#[tactic(auto, unfolding(crate::specs::Ascii::is_hex_digit))]
 fn is_hex_digit(b: u8) -> bool
     ensures { result ≡ is_hex_digit b }
 {
@@ -110,6 +119,7 @@ pub fn is_digit(radix: Radix, b: u8) -> bool
     }
 }
 
+#[tactic(auto, unfolding(crate::specs::Ascii::is_spaced_digit))]
 fn is_spaced_digit(radix: Radix, b: u8) -> bool
     ensures { result ≡ is_spaced_digit radix b }
 {

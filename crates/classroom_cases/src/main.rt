@@ -1,4 +1,6 @@
 // Classroom sums 10 and 11 of document 01: compiles small texts and writes what is answered to each.
+#![tactic(auto)]
+
 use compile::Compiled;
 
 // The rows that the tables hold: as many as a map may have.

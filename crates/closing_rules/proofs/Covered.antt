@@ -1,5 +1,5 @@
 -- Laws of fields and the bits that they close: a cover answers whether a field overlaps an earlier one unlawfully.
-use mathlib.Core.Bool.{Bool, true, false, ◌||◌, not, or_false}
+use mathlib.Core.Bool.{Bool, true, false, ◌||◌, not, or-false}
 use mathlib.Core.Path.{◌≡◌, refl, sym, ap₂, ◌∙◌}
 use mathlib.Core.List.{List, [], ◌∷◌, ◌++◌, append-nil}
 use Prim.Native.Nat.{ℕ, ◌+◌, ◌<◌, ◌≤◌}
@@ -33,7 +33,7 @@ answers_more : {c : Cover} {fs : List FieldAt} (g : FieldAt) → is_narrow g ≡
 unfolding some breaks
 answers_more {c} {fs} g m s =
     record {
-      same = λ f n. meets_with c f g n m ∙ ap₂ (λ (x y : Bool). x || y) (s.same f n) (sym (or_false (is_overlap f g))) ∙ sym (some-append (Overlap f) fs (g ∷ []));
+      same = λ f n. meets_with c f g n m ∙ ap₂ (λ (x y : Bool). x || y) (s.same f n) (sym (or-false (is_overlap f g))) ∙ sym (some-append (Overlap f) fs (g ∷ []));
     }
 
 answers-placed : {c : Cover} {fs : List FieldAt} (p : Placed) → is_narrow_in p ≡ true → Answers c fs → Answers (cover_with_placed c p) (fs ++ with_placed p [])

@@ -3,7 +3,7 @@ use mathlib.Core.Bool.{Bool, true, false, ◌||◌}
 use mathlib.Core.Path.{◌≡◌, refl, sym, ap, ◌∙◌}
 use mathlib.Core.List.{List, [], ◌∷◌, ◌++◌, append_assoc, append-nil}
 use Prim.Native.Nat.{ℕ, suc, ◌+◌, ◌-◌, ◌*◌, ◌<◌, ◌≤◌}
-use native.Mathlib.Numerals.{add_one}
+use native.Mathlib.Numerals.{add-one}
 use native.Mathlib.Omega.{arith}
 use lib.Dec.{eqb}
 use borrow.Author.Tests.{eq-eqb, ne_eqb, lt-ltb, le-ltb}
@@ -120,7 +120,7 @@ pub field_top : (p : Placed) {f : FieldAt} → p ≡ placed.Field f → top_of p
 field_top p e h = rw e at h
 
 pub above_field : (p : Placed) (next : BitPlace) {f : FieldAt} → p ≡ placed.Field f → record { 0 = f.high.0 + 1 } ≡ bit_above p next
-above_field p next e = rw (e, add_one)
+above_field p next e = rw (e, add-one)
 
 above_fits : (p : Placed) (next : BitPlace) {to i : ℕ} → i < to → top_of p ≤ next.0 + 63 → next.0 + 64 * (to - i) < sum_bound → (bit_above p next).0 + 64 * (to - (i + 1)) < sum_bound
 above_fits (placed.Field f) next h m l = omega arith
@@ -152,7 +152,7 @@ fields_on : (text t : List ℕ) (next : BitPlace) (i to : ℕ) {p : Placed} → 
 unfolding fields_in_cells
 fields_on text t next i to h f =
     let n : to - i ≡ suc (to - (i + 1)) = omega arith in
-    let m : i + 1 ≡ suc i = add_one i in
+    let m : i + 1 ≡ suc i = add-one i in
     rw (n, m, f)
 
 pub fields_none : (text t : List ℕ) (next : BitPlace) (i to : ℕ) → to ≤ i → fields_in_cells text t next i (to - i) ≡ []
@@ -294,7 +294,7 @@ module _ (text t : List ℕ) (from to : ℕ) where
       fields_more n =
           let a = s.begun in
           let z : i + 1 - from + n ≡ i - from + suc n = omega arith in
-          let m : i + 1 ≡ suc i = add_one i in
+          let m : i + 1 ≡ suc i = add-one i in
           let q : Placed = placed_in text t next (cell_of t i) in
           rw (z, s.split (suc n), m, f) (placed_last (fields_between text t from i) q (fields_in_cells text t (bit_above q next) (suc i) n))
 

@@ -1,4 +1,6 @@
 // What is judged at a closing brace: 10 for a missing instance, 12 for a field, 13 to 17 for a register.
+#![tactic(auto)]
+
 ghost use Rattle.std.specs.Prelude.{◌≡◌, true, ◌+◌, ◌-◌, ◌*◌, ◌≤◌, ◌<◌};
 ghost use Rattle.basics.specs.Limits.{sum_bound};
 ghost use Rattle.basics.specs.Slices.{cell_of};
@@ -14,14 +16,14 @@ use fields::{BitPlace, FieldAt, FieldType, Probe, Register};
 use parts::{Instance, Kind};
 
 // A field of a register, or an instance that is none.
-#[derive(Drop)]
+#[derive(Clone, Copy)]
 pub enum Placed {
     Field(FieldAt),
     Other,
 }
 
 // Which rules some field of a register breaks: 13, 15, 17.
-#[derive(Drop)]
+#[derive(Clone, Copy)]
 pub struct Broken {
     pub wide: bool,
     pub outside: bool,

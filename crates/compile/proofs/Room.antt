@@ -4,7 +4,7 @@ use mathlib.Core.Bool.{Bool, true, false, ◌||◌, ◌&&◌, not}
 use mathlib.Core.List.{List, [], ◌∷◌, ◌++◌, append_assoc}
 use Prim.Native.Nat.{ℕ, suc, ◌+◌, ◌*◌, ◌<◌, ◌≤◌}
 use native.Mathlib.Omega.{arith}
-use native.Mathlib.Numerals.{add_one}
+use native.Mathlib.Numerals.{add-one}
 use lib.Dec.{leb, ltb}
 use lib.ListN.{length, set, take, drop, length-set, take-append-drop}
 use lib.Seq.{take-suc-set, drop-set-lt}
@@ -28,7 +28,7 @@ unfolding written
 written_between t i [] l = let z : i + 0 ≡ i = omega arith in rw z (sym (take-append-drop i t))
 written_between t i (x ∷ xs) l =
     let h = written_between (set t i x) (i + 1) xs (simp length-set (omega (arith, l))) in
-    let a : take (i + 1) (set t i x) ≡ take i t ++ (x ∷ []) = rw (add_one i) (take-suc-set t i x (omega (arith, l))) in
+    let a : take (i + 1) (set t i x) ≡ take i t ++ (x ∷ []) = rw (add-one i) (take-suc-set t i x (omega (arith, l))) in
     let n : i + 1 + length xs ≡ i + suc (length xs) = omega arith in
     h ∙ rw (a, n, drop-set-lt (i + suc (length xs)) t i x (omega arith)) (append_assoc (take i t) (x ∷ []) (xs ++ drop (i + suc (length xs)) t))
 

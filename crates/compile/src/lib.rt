@@ -1,4 +1,6 @@
 // The compiler: a text's rows in four lent tables, or its first refusal.
+#![tactic(auto)]
+
 ghost use Rattle.std.specs.Prelude.{◌≡◌, ◌≤◌, length};
 ghost use Rattle.basics.specs.Limits.{register_limit, field_limit};
 ghost use Rattle.layout.specs.Layout.{mode_of};
@@ -18,7 +20,7 @@ use scopes::Ruling;
 use sizes::Extent;
 
 // A refusal's number and place, or how many register rows and field rows were written.
-#[derive(Drop)]
+#[derive(Clone, Copy)]
 pub enum Compiled {
     Refused(u8, Place),
     Accepted(usize, usize),

@@ -1,4 +1,6 @@
 // Components with their effective values, and the bits and the reset of a field's instance.
+#![tactic(auto)]
+
 ghost use Rattle.std.specs.Prelude.{◌≡◌, ◌≤◌, ◌<◌};
 ghost use Rattle.basics.specs.Limits.{width_limit, sum_bound};
 ghost use Rattle.components.specs.Components.{field_type, register_of, component_of, kind_of, start_of};
@@ -12,14 +14,14 @@ use parts::{Array, Instance, Kind, Suffix};
 use properties::Settings;
 
 // Where an instance starts in its body, if its `@` says so.
-#[derive(Drop)]
+#[derive(Clone, Copy)]
 pub enum Start {
     Free,
     At(Offset),
 }
 
 // A field, a register, a regfile with its alignment, or an address map with its alignment and addressing.
-#[derive(Drop)]
+#[derive(Clone, Copy)]
 pub enum Component {
     Field(FieldType),
     Register(Register),

@@ -1,5 +1,5 @@
 -- Laws of covers: a field meets a cover with one field more where it meets the cover or overlaps that field unlawfully. Assumes nothing.
-use mathlib.Core.Bool.{Bool, true, false, ◌||◌, ◌&&◌, not, or_false, or_true, and_true, and_false, and-or_distrib_left}
+use mathlib.Core.Bool.{Bool, true, false, ◌||◌, ◌&&◌, not, or-false, or-true, and-true, and-false, and-or_distrib_left}
 use mathlib.Core.Path.{◌≡◌, refl, sym, ap, ap₂, ◌∙◌}
 use Prim.Native.Nat.{ℕ, zero, suc, ◌+◌, ◌-◌, ◌*◌, ◌/◌, ◌%◌, ◌^◌, ◌≤◌, ◌<◌}
 use native.Mathlib.Nat.{pow-suc, zero-div}
@@ -135,7 +135,7 @@ any_here zero f i k e = absurd (omega arith)
 any_here (suc n) f i k e = go (dec_lt i n) (λ m. any_here n f i m e)
   where
     go : Dec (i < n) → (i < n → any_below n f ≡ true) → (f n || any_below n f) ≡ true
-    go (yes m) ih = rw (ih m) (or_true (f n))
+    go (yes m) ih = rw (ih m) (or-true (f n))
     go (no m) ih = let z : n ≡ i = omega arith in rw (z, e)
 
 -- ---- two fields share a bit where neither lies above the other
@@ -180,7 +180,7 @@ word_bits {w} h = sym (number_bit 64 w h)
 module _ (a : ℕ) (f : FieldAt) {w : ℕ} {b : Bool} (g : b ≡ is_read_write_pair a f.values.sw) (fits : w < 2 ^ 64) where
   pub closed_not : b ≡ true → w ≡ closed_by a f w
   unfolding closed_by closes
-  closed_not y = word_bits fits ∙ number_ext 64 (bit w) (λ i. bit w i || closes a f i) (λ i k. rw (← g, y) (sym (or_false (bit w i))))
+  closed_not y = word_bits fits ∙ number_ext 64 (bit w) (λ i. bit w i || closes a f i) (λ i k. rw (← g, y) (sym (or-false (bit w i))))
 
   pub closed_more : {x : ℕ} → b ≡ false → x ≡ number 64 (has_bit f) → bit_or w x ≡ closed_by a f w
   unfolding closed_by closes
@@ -242,10 +242,10 @@ unfolding has_bit
 shared_unless f g true d e =
     let x = narrow_within f d in
     let y = narrow_within g e in
-    any_shared f.low.0 f.high.0 g.low.0 g.high.0 x.0 y.0 x.1 ∙ sym (and_true (leb f.low.0 g.high.0 && leb g.low.0 f.high.0))
+    any_shared f.low.0 f.high.0 g.low.0 g.high.0 x.0 y.0 x.1 ∙ sym (and-true (leb f.low.0 g.high.0 && leb g.low.0 f.high.0))
 shared_unless f g false d e =
-    any_none 64 (λ i. has_bit f i && (false && has_bit g i)) (λ i k. and_false (has_bit f i))
-    ∙ sym (and_false (leb f.low.0 g.high.0 && leb g.low.0 f.high.0))
+    any_none 64 (λ i. has_bit f i && (false && has_bit g i)) (λ i k. and-false (has_bit f i))
+    ∙ sym (and-false (leb f.low.0 g.high.0 && leb g.low.0 f.high.0))
 
 -- a field meets what is closed with one field more where it meets what was closed, or overlaps that field unlawfully
 pub meets_with : (c : Cover) (f g : FieldAt) → is_narrow f ≡ true → is_narrow g ≡ true → meets_in (cover_with c g) f ≡ (meets_in c f || is_overlap f g)
@@ -274,4 +274,4 @@ pub meets_nothing : (f : FieldAt) → meets_in nothing_covered f ≡ false
 unfolding meets_in
 meets_nothing f =
     any_none 64 (λ i. has_bit f i && bit (closed_to f.values.sw nothing_covered) i)
-    (λ i k. rw (closed_nothing f.values.sw, bit_zero i) (and_false (has_bit f i)))
+    (λ i k. rw (closed_nothing f.values.sw, bit_zero i) (and-false (has_bit f i)))

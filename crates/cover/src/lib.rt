@@ -1,4 +1,6 @@
 // Which bits of a register are closed to a field because earlier fields have them, for rule 16.
+#![tactic(auto)]
+
 ghost use Rattle.std.specs.Prelude.{◌≡◌, true};
 ghost use Rattle.bits.specs.Bits.{number};
 ghost use Rattle.cover.specs.Covers.{is_narrow, has_bit, closed_to, closed_by, meets_in, nothing_covered, cover_with};
@@ -8,7 +10,7 @@ use fields::{AccessRight, FieldAt};
 const ALL: u64 = 18446744073709551615;
 
 // The bits that are closed to a field that is only read, to one that is only written, and to any other.
-#[derive(Drop)]
+#[derive(Clone, Copy)]
 pub struct Cover {
     pub readers: u64,
     pub writers: u64,

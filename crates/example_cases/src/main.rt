@@ -1,4 +1,6 @@
 // Writes the listing of the example post: examples/post.rdl and examples/post.listing are links to this program's stdin and stdout.
+#![tactic(auto)]
+
 use libc::{STDIN_FILENO, STDOUT_FILENO};
 
 // Room for the example and for its listing.

@@ -1,5 +1,7 @@
 // Runs the expressions of standard input (for each a little-endian u32 length, then the text) and writes a line for each: its value or
 // the operator that refuses it, its place and the cursor past it; or where it stops. tests/expression_cases.py makes the cases.
+#![tactic(auto)]
+
 use case_io::{LONGEST_TEXT, MOST_CASES, put, put_number};
 use expressions::{Number, NumberReading, Refusal};
 

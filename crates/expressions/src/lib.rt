@@ -1,4 +1,6 @@
 // Constant expressions: wherever a number may stand, a sum of numbers may. The readers keep no tree; the grammar's definitions give it.
+#![tactic(auto)]
+
 ghost use Rattle.std.specs.Prelude.{◌≡◌};
 ghost use Rattle.expressions.specs.Reading.{mapped};
 ghost use Rattle.expressions.specs.Words.{mark_part, part_of, in_row, operator_in, is_operator, is_close};
@@ -13,7 +15,7 @@ use vocabulary::Mark;
 const ROW_COUNT: usize = 8;
 
 // What a word may be in an expression.
-#[derive(Drop)]
+#[derive(Clone, Copy)]
 pub enum ExpressionWord {
     Literal(u64),
     Open,
@@ -22,28 +24,28 @@ pub enum ExpressionWord {
     Other,
 }
 
-#[derive(Drop)]
+#[derive(Clone, Copy)]
 pub enum OperatorLookup {
     Found(Operator),
     Missing,
 }
 
 // Which operator refuses a number, by its place.
-#[derive(Drop)]
+#[derive(Clone, Copy)]
 pub enum Refusal {
     Nowhere,
     AtOperator(usize),
 }
 
 // A number, its place, and whether it is refused; the value of a refused one is 0.
-#[derive(Drop)]
+#[derive(Clone, Copy)]
 pub struct Number {
     pub value: u64,
     pub place: usize,
     pub refusal: Refusal,
 }
 
-#[derive(Drop)]
+#[derive(Clone, Copy)]
 pub enum NumberReading {
     Done(Number, usize),
     Refused(u8, usize),

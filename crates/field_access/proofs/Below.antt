@@ -2,7 +2,7 @@
 use mathlib.Core.Bool.{Bool, true, false, ◌&&◌, not}
 use mathlib.Core.Path.{◌≡◌, refl, sym}
 use Prim.Native.Nat.{ℕ, zero, suc, ◌+◌, ◌<◌, ◌≤◌}
-use native.Mathlib.Numerals.{add_one}
+use native.Mathlib.Numerals.{add-one}
 use native.Mathlib.Decide.{dec_lt}
 use native.Mathlib.Omega.{arith}
 use Rattle.chars.proofs.Laws.{and_false}
@@ -16,7 +16,7 @@ module _ (p : ℕ → Bool) where
 
   pub below_more : (k : ℕ) → all_below k p ≡ true → p k ≡ true → all_below (k + 1) p ≡ true
   unfolding all_below
-  below_more k h e = rw (add_one k, h) e
+  below_more k h e = rw (add-one k, h) e
 
   pub below_fails : (n k : ℕ) → k < n → p k ≡ false → all_below n p ≡ false
   unfolding all_below

@@ -1,4 +1,6 @@
 // One stored field: what an access reaches of it, what it does to its number, and what a read answers from it.
+#![tactic(auto)]
+
 ghost use Rattle.std.specs.Prelude.{◌≡◌, true, ◌&&◌, ◌<◌, ◌≤◌, ◌^◌, ltb};
 ghost use Rattle.fields.specs.Codes.{is_width};
 ghost use Rattle.bits.specs.Bits.{bit, number};

@@ -1,4 +1,6 @@
 // A field and a register by their values: access, effects, bits and widths; the codes of the words; the tests of the rules 12 to 17.
+#![tactic(auto)]
+
 ghost use Rattle.std.specs.Prelude.{◌≡◌, ◌&&◌, not, ◌<◌, ◌^◌, leb, ltb, eqb};
 ghost use Rattle.fields.specs.Codes.{access_code, read_code, write_code, mode_code, is_width};
 ghost use Rattle.fields.specs.Fields.{standard_register, is_readable, is_writable, has_unusable_effect, is_wide, is_reset_wide, is_read_write_pair, is_overlap, is_changed_by_access, spans_parts, breaks};
@@ -6,7 +8,7 @@ ghost use Rattle.fields.specs.Fields.{standard_register, is_readable, is_writabl
 use basics::Given;
 
 // `sw` and `hw`; `wr` is `rw`.
-#[derive(Drop)]
+#[derive(Clone, Copy)]
 pub enum AccessRight {
     Na,
     R,
@@ -15,7 +17,7 @@ pub enum AccessRight {
 }
 
 // `onread`.
-#[derive(Drop)]
+#[derive(Clone, Copy)]
 pub enum ReadEffect {
     Kept,
     Rclr,
@@ -23,7 +25,7 @@ pub enum ReadEffect {
 }
 
 // `onwrite`.
-#[derive(Drop)]
+#[derive(Clone, Copy)]
 pub enum WriteEffect {
     Plain,
     Woset,
@@ -37,7 +39,7 @@ pub enum WriteEffect {
 }
 
 // `addressing`.
-#[derive(Drop)]
+#[derive(Clone, Copy)]
 pub enum Mode {
     Compact,
     Regalign,
@@ -45,15 +47,15 @@ pub enum Mode {
 }
 
 // A bit's place in a register.
-#[derive(Drop)]
+#[derive(Clone, Copy)]
 pub struct BitPlace(pub u64);
 
 // A byte's offset in an address map or regfile. It is never mixed with a bit's place.
-#[derive(Drop)]
+#[derive(Clone, Copy)]
 pub struct Offset(pub u64);
 
 // A field's access and effects, as the numbers of the words, and its reset.
-#[derive(Drop)]
+#[derive(Clone, Copy)]
 pub struct FieldType {
     pub sw: u64,
     pub hw: u64,
@@ -63,14 +65,14 @@ pub struct FieldType {
 }
 
 // The widths of a register, in bits.
-#[derive(Drop)]
+#[derive(Clone, Copy)]
 pub struct Register {
     pub width: u64,
     pub access: u64,
 }
 
 // A field of a register.
-#[derive(Drop)]
+#[derive(Clone, Copy)]
 pub struct FieldAt {
     pub low: BitPlace,
     pub high: BitPlace,
@@ -79,7 +81,7 @@ pub struct FieldAt {
 
 // What a field of a register may be asked: whether its reset is too wide, whether it lies outside a width, whether it overlaps another
 // unlawfully, whether it spans access parts.
-#[derive(Drop)]
+#[derive(Clone, Copy)]
 pub enum Probe {
     Wide,
     Outside(u64),

@@ -1,4 +1,6 @@
 // Names of a text, compared by their bytes, and a fingerprint of each.
+#![tactic(auto)]
+
 ghost use Rattle.std.specs.Prelude.{◌≡◌, ◌+◌, ◌*◌, ◌%◌, ◌<◌};
 ghost use Rattle.identifiers.specs.Names.{bytes_of, same_name, print_bound, print_from};
 

@@ -1,4 +1,6 @@
 // Where an instance lies in its body: its step, its stride, its span, its start and its end, in numbers cut at a cap above every address.
+#![tactic(auto)]
+
 ghost use Rattle.std.specs.Prelude.{◌≡◌, ◌≤◌};
 ghost use Rattle.capped.specs.Offsets.{cap, cut};
 ghost use Rattle.layout.specs.Layout.{elements, stride_or, stride_of, span_of, mode_step, step_of, laid, cut_laid};
@@ -10,14 +12,14 @@ use fields::{Mode, Offset};
 use parts::{Array, Instance, Suffix};
 
 // The size of an element and its access width, in bytes.
-#[derive(Drop)]
+#[derive(Clone, Copy)]
 pub struct Shape {
     pub size: u64,
     pub access: u64,
 }
 
 // Where an instance lies in its body: its first element's offset, its stride, and its end.
-#[derive(Drop)]
+#[derive(Clone, Copy)]
 pub struct Laid {
     pub start: Offset,
     pub stride: u64,

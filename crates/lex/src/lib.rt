@@ -1,4 +1,6 @@
 // The word stage: the token at a place of a text, and the first refusal of a text by 1, 2 and 4.
+#![tactic(auto)]
+
 ghost use Rattle.std.specs.Prelude.{◌≡◌, [], ◌∷◌, ◌≤◌, ◌<◌, ◌+◌, length, take, drop};
 ghost use Rattle.vocabulary.specs.Vocabulary.{mark_of};
 ghost use Rattle.lex.specs.Blank.{next_from};
@@ -11,14 +13,14 @@ use numbers::Numeral;
 use vocabulary::{Keyword, Lookup, Mark, MarkLookup};
 
 // Where a search ended: at a place, or in a comment or string that is not closed and starts at a place.
-#[derive(Drop)]
+#[derive(Clone, Copy)]
 pub enum Next {
     At(usize),
     Unclosed(usize),
 }
 
 // Why a word is bad.
-#[derive(Drop)]
+#[derive(Clone, Copy)]
 pub enum Cause {
     Unclosed,
     Malformed,
@@ -27,7 +29,7 @@ pub enum Cause {
 }
 
 // A word in document 01's sense, and the end of text.
-#[derive(Drop)]
+#[derive(Clone, Copy)]
 pub enum Word {
     End,
     Name,
@@ -39,7 +41,7 @@ pub enum Word {
 }
 
 // A word with its first byte's place and the place past its last byte.
-#[derive(Drop)]
+#[derive(Clone, Copy)]
 pub struct Token {
     pub word: Word,
     pub start: usize,
@@ -47,20 +49,20 @@ pub struct Token {
 }
 
 // A place of a text: a byte, counted from 0.
-#[derive(Drop)]
+#[derive(Clone, Copy)]
 pub struct Place {
     pub at: usize,
 }
 
 // Whether a text is accepted so far, or its first refusal with its number.
-#[derive(Drop)]
+#[derive(Clone, Copy)]
 pub enum Verdict {
     Accepted,
     Refused(u8, Place),
 }
 
 // What a token means for the text it stands in.
-#[derive(Drop)]
+#[derive(Clone, Copy)]
 pub enum Scanned {
     Settled(Verdict),
     GoOn,

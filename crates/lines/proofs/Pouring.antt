@@ -3,7 +3,7 @@ use mathlib.Core.Bool.{true, false}
 use mathlib.Core.Path.{◌≡◌, refl, sym, ap, ◌∙◌}
 use mathlib.Core.List.{List, [], ◌∷◌, ◌++◌}
 use Prim.Native.Nat.{ℕ, ◌+◌, ◌<◌, ◌≤◌}
-use native.Mathlib.Numerals.{add_one}
+use native.Mathlib.Numerals.{add-one}
 use lib.ListN.{set}
 use borrow.Author.Tests.{le-leb, lt-leb}
 use Rattle.lines.specs.declared.Sink.{Sink}
@@ -74,4 +74,4 @@ module _ (room : ℕ) (out : List ℕ) (s : Sink) (b : ℕ) where
 
     pub byte_fits : {now : List ℕ} → s.at < room → now ≡ set out s.at b → Pours room out now s (b ∷ []) (record { at = s.at + 1; full = false })
     unfolding poured filled behind with_byte
-    byte_fits h f = record { sink = rw (add_one, e, lt-leb room s.at h); out = rw (e, lt-leb room s.at h) f }
+    byte_fits h f = record { sink = rw (add-one, e, lt-leb room s.at h); out = rw (e, lt-leb room s.at h) f }

@@ -1,4 +1,6 @@
 // Bytes poured into an output as far as there is room: numbers, words and lines of a listing.
+#![tactic(auto)]
+
 ghost use Rattle.std.specs.Prelude.{◌≡◌, [], ◌∷◌, ◌≤◌, ◌<◌};
 ghost use Rattle.chars.specs.Ascii.{bytes};
 ghost use Rattle.lines.specs.Text.{digit_byte, digits, decimal, hex, access_word, read_word, on_one_word, on_zero_word, write_word, reset_text, line, bits_text, value_lines};
@@ -8,7 +10,7 @@ use basics::Given;
 use fields::{FieldAt, FieldType, Offset};
 
 // How many bytes were poured into an output, and whether more were than it has room for.
-#[derive(Drop)]
+#[derive(Clone, Copy)]
 pub struct Sink {
     pub at: usize,
     pub full: bool,

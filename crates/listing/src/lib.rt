@@ -1,4 +1,6 @@
 // The listing of a map: its rows as key=value lines.
+#![tactic(auto)]
+
 ghost use Rattle.std.specs.Prelude.{◌≡◌, ◌++◌, ◌+◌, ◌*◌, ◌≤◌, length};
 ghost use Rattle.basics.specs.Limits.{nest_limit, register_limit, register_row_width, name_width, path_row_width, index_bound, sum_bound};
 ghost use Rattle.chars.specs.Ascii.{bytes};
@@ -13,7 +15,7 @@ ghost use Rattle.listing.specs.Bounds.{Bounded, AllBounded};
 use lines::Sink;
 
 // A refusal's number, or how many bytes were written.
-#[derive(Drop)]
+#[derive(Clone, Copy)]
 pub enum Listed {
     Refused(u8),
     Written(usize),

@@ -2,7 +2,7 @@
 use mathlib.Core.Bool.{Bool, true, false}
 use mathlib.Core.Path.{◌≡◌, refl, sym, ap, ◌∙◌}
 use Prim.Native.Nat.{ℕ, ◌+◌, ◌-◌, ◌^◌, ◌<◌, ◌≤◌}
-use native.Mathlib.Numerals.{add_one}
+use native.Mathlib.Numerals.{add-one}
 use lib.Dec.{eqb}
 use lib.ListN.{get_or}
 use borrow.Author.Tests.{lt-ltb, le-ltb, eq-eqb, ne_eqb}
@@ -27,7 +27,7 @@ use Rattle.log_lines.specs.Log.{counted, calling, fresh, letter_at, is_last, exp
 module _ (n : ℕ) where
   pub counted_on : n < 2 ^ 64 - 1 → n + 1 ≡ counted n
   unfolding counted
-  counted_on h = rw (lt-ltb n (2 ^ 64 - 1) h, add_one)
+  counted_on h = rw (lt-ltb n (2 ^ 64 - 1) h, add-one)
 
   pub counted_out : 2 ^ 64 - 1 ≤ n → n ≡ counted n
   unfolding counted

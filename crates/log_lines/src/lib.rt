@@ -1,5 +1,7 @@
 // The lines of a log of accesses. A line is read byte by byte, with nothing kept but where it stands and its numbers so far, so that it
 // may be cut anywhere and be of any length.
+#![tactic(auto)]
+
 ghost use Rattle.std.specs.Prelude.{◌≡◌};
 ghost use Rattle.lines.specs.Sinks.{Pours};
 ghost use Rattle.log_lines.specs.Log.{fresh, counted, calling, letter_at, is_last, expected_in_word, expected_behind, expected_next, onward, broken, begun, with_letter, with_value, with_whole, with_digit, behind_number, with_next, with_first, behind_zero, with_first_hex, with_byte, access_of, cut_short, ended_number, ended};
@@ -12,7 +14,7 @@ use model::Access;
 use numbers::Numeral;
 
 // What stands where a line cannot go on.
-#[derive(Drop)]
+#[derive(Clone, Copy)]
 pub enum Expected {
     Line,
     ReadWord,
@@ -27,7 +29,7 @@ pub enum Expected {
 }
 
 // How far a line is read.
-#[derive(Drop)]
+#[derive(Clone, Copy)]
 pub enum Stage {
     // nothing of it
     Start,
@@ -53,7 +55,7 @@ pub enum Stage {
 
 // An access as far as it is read: whether it is a write, how many of its numbers are whole, the last two of these, and the number that is
 // being read.
-#[derive(Drop)]
+#[derive(Clone, Copy)]
 pub struct Call {
     pub writes: bool,
     pub whole: u64,
@@ -63,7 +65,7 @@ pub struct Call {
 }
 
 // A line as far as it is read: how far, how many bytes, and its access.
-#[derive(Drop)]
+#[derive(Clone, Copy)]
 pub struct Line {
     pub stage: Stage,
     pub column: u64,
@@ -71,7 +73,7 @@ pub struct Line {
 }
 
 // What a line is: none that counts, an access, or none at all, with the column where it goes wrong and what was expected there.
-#[derive(Drop)]
+#[derive(Clone, Copy)]
 pub enum LogLine {
     Skipped,
     Made(Access),

@@ -2,7 +2,7 @@
 use mathlib.Core.Path.{◌≡◌, refl, sym, ap, ◌∙◌}
 use mathlib.Core.List.{List, [], ◌∷◌, ◌++◌}
 use Prim.Native.Nat.{ℕ, suc, ◌+◌, ◌-◌, ◌*◌, ◌≤◌, ◌<◌}
-use native.Mathlib.Numerals.{add_one}
+use native.Mathlib.Numerals.{add-one}
 use native.Mathlib.Omega.{arith}
 use lib.ListN.{length}
 use Rattle.basics.specs.Limits.{sum_bound}
@@ -128,7 +128,7 @@ module _ (text t before : List ℕ) (e : Extent) (levels : ℕ) (kid : Kid) (tra
       pub array_on : {u : Tally} {past : ℕ} → length after ≡ length log → r ≡ walked.Done u → (past ≡ cut (address.0 + kid.stride)) × (past ≤ cap)
           → Arraying text t before e levels kid trail start (k + 1) (record { 0 = past }) u after
       array_on {u} {past} long f y =
-          let z : k + 1 ≡ suc k = add_one k in
+          let z : k + 1 ≡ suc k = add-one k in
           rw z
           (record {
             low = y.1;

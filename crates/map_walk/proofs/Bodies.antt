@@ -4,7 +4,7 @@ use mathlib.Core.Bool.{Bool, true, false, ◌&&◌}
 use mathlib.Core.List.{List, [], ◌∷◌, ◌++◌}
 use Prim.Native.Nat.{ℕ, suc, ◌+◌, ◌-◌, ◌*◌, ◌/◌, ◌≤◌, ◌<◌}
 use native.Mathlib.Nat.{lt-div-mul-add}
-use native.Mathlib.Numerals.{add_one}
+use native.Mathlib.Numerals.{add-one}
 use native.Mathlib.Omega.{arith}
 use lib.Dec.{ltb}
 use lib.ListN.{length}
@@ -263,7 +263,7 @@ module _ (text t before : List ℕ) (e : Extent) (levels row : ℕ) (a : Given) 
                       small = w.small v l;
                       long = long ∙ g.long;
                       rest = ahead.others;
-                      block = rw (add_one i) ahead.block;
+                      block = rw (add-one i) ahead.block;
                       until = let m : length g.rest ≡ suc (length ahead.others) = ap length ahead.whole in omega (arith, m, g.until);
                       children = ahead.children;
                       behind = whole.end;

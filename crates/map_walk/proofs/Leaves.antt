@@ -3,7 +3,7 @@ use mathlib.Core.Path.{◌≡◌, refl, sym, ◌∙◌}
 use mathlib.Core.Bool.{Bool, true, false, ◌&&◌}
 use mathlib.Core.List.{List, ◌∷◌, map}
 use Prim.Native.Nat.{ℕ, ◌+◌, ◌%◌, ◌≤◌, ◌<◌}
-use native.Mathlib.Numerals.{add_one}
+use native.Mathlib.Numerals.{add-one}
 use native.Mathlib.Omega.{arith}
 use lib.Dec.{ltb}
 use lib.ListN.{length, set, get_or, drop, drop_of_length-le, length-map}
@@ -32,7 +32,7 @@ use Rattle.map_walk.specs.Walks.{close_fault, place_fault, GroupVisited, KidMade
 
 -- the index of an element
 pub index_size : {a : Array} (k : ℕ) {mark : ℕ} {n : Number} → a ≡ array.Size mark n → k + 1 ≡ index_code (index_in a k)
-index_size k e = rw e (add_one k)
+index_size k e = rw e (add-one k)
 
 -- 19
 module _ (x : Element) where

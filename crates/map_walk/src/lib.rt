@@ -1,4 +1,6 @@
 // A walk over all elements of a map, in map order: the first fault by 18, 19 and 20, and a log of the registers.
+#![tactic(auto)]
+
 ghost use Rattle.std.specs.Prelude.{◌≡◌, ◌∷◌, ◌+◌, ◌-◌, ◌*◌, ◌<◌, ◌≤◌, set};
 ghost use Rattle.basics.specs.Slices.{written};
 ghost use Rattle.register_log.specs.Log.{log_width, head_of, step_of};
@@ -18,14 +20,14 @@ use parts::{Array, Instance, Name};
 use sizes::Extent;
 
 // A path: a number of the log for each step.
-#[derive(Drop)]
+#[derive(Clone, Copy)]
 pub struct Trail {
     pub depth: usize,
     pub steps: [u64; basics::NEST_LIMIT],
 }
 
 // How many registers and fields there are, and the first faults by 19 and 20.
-#[derive(Drop)]
+#[derive(Clone, Copy)]
 pub struct Tally {
     pub registers: usize,
     pub fields: usize,
@@ -34,7 +36,7 @@ pub struct Tally {
 }
 
 // An instance that is laid: its type's row, its first element's address, its stride, and whether that is below its size.
-#[derive(Drop)]
+#[derive(Clone, Copy)]
 pub struct Kid {
     pub row: usize,
     pub instance: Instance,
@@ -44,7 +46,7 @@ pub struct Kid {
 }
 
 // An element: its type's row, its name, its index and one more, or 0, its address, and whether its array's stride is below its size.
-#[derive(Drop)]
+#[derive(Clone, Copy)]
 pub struct Element {
     pub row: usize,
     pub name: Name,
@@ -54,7 +56,7 @@ pub struct Element {
 }
 
 // A body in the map: its definition's row, its address, the path that leads to it, and how many levels of elements may lie below it.
-#[derive(Drop)]
+#[derive(Clone, Copy)]
 pub struct Site {
     pub row: usize,
     pub address: Offset,
@@ -63,21 +65,21 @@ pub struct Site {
 }
 
 // How many registers and fields a map has.
-#[derive(Drop)]
+#[derive(Clone, Copy)]
 pub struct Counts {
     pub registers: usize,
     pub fields: usize,
 }
 
 // A place that breaks 18, or the counts so far.
-#[derive(Drop)]
+#[derive(Clone, Copy)]
 pub enum Walked {
     Refused(usize),
     Done(Tally),
 }
 
 // The first fault by 18, 19 and 20, or how many registers and fields there are.
-#[derive(Drop)]
+#[derive(Clone, Copy)]
 pub enum Surveyed {
     Refused(u8, usize),
     Done(Counts),

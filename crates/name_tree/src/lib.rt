@@ -1,5 +1,7 @@
 // The instances of an open body as a tree over their names, so that rule 6 need not look at all of them: a name goes down from the body's
 // first instance, at each depth to the side that its own bits say. Equal names go one way, and no way is longer than a name has bits.
+#![tactic(auto)]
+
 ghost use Rattle.std.specs.Prelude.{◌≡◌, ◌+◌, ◌<◌, ◌≤◌, length};
 ghost use Rattle.basics.specs.Limits.{text_limit, definition_limit};
 ghost use Rattle.parts.specs.Parts.{name_at};
@@ -13,7 +15,7 @@ use parts::NameReading;
 const PRINT_BITS: usize = 32;
 
 // Whether an instance of the body has the name; and if not, below which one and on which side one more of that name is linked.
-#[derive(Drop)]
+#[derive(Clone, Copy)]
 pub struct Spot {
     pub taken: bool,
     pub node: usize,

@@ -1,11 +1,13 @@
 // Numbers: what the bytes of a number are worth, or why they are no number.
+#![tactic(auto)]
+
 ghost use Rattle.std.specs.Prelude.{◌≡◌, ◌≤◌, drop};
 ghost use Rattle.numbers.specs.Number.{digit_value, next_value, value, fitting, base_of, radix_of, plain_digits, spaced_digits, width_of, sized_number, sized_at, hex_prefixed, hex_number, number_of};
 
 use chars::{Class, Radix};
 
 // A number's value; malformed; or too wide for 64 bits or for its width.
-#[derive(Drop)]
+#[derive(Clone, Copy)]
 pub enum Numeral {
     Fits(u64),
     Malformed,
@@ -13,7 +15,7 @@ pub enum Numeral {
 }
 
 // The radix that a letter names.
-#[derive(Drop)]
+#[derive(Clone, Copy)]
 pub enum RadixLookup {
     Known(Radix),
     Unknown,

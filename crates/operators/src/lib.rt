@@ -1,4 +1,6 @@
 // The operators of constant expressions: how tightly each binds, and its result over numbers of 64 bits, or that it has none.
+#![tactic(auto)]
+
 ghost use Rattle.std.specs.Prelude.{◌≡◌};
 ghost use Rattle.operators.specs.Operators.{row_of, truth, result_of};
 
@@ -7,7 +9,7 @@ const MAX: u64 = 18446744073709551615;
 // A shift has to be below it.
 const SHIFT_LIMIT: u64 = 64;
 
-#[derive(Drop)]
+#[derive(Clone, Copy)]
 pub enum Operator {
     Times,
     Over,
@@ -28,7 +30,7 @@ pub enum Operator {
 }
 
 // A result, or that there is none from 0 to 2^64 - 1.
-#[derive(Drop)]
+#[derive(Clone, Copy)]
 pub enum Computed {
     Is(u64),
     Out,

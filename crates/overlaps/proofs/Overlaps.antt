@@ -3,7 +3,7 @@ use mathlib.Core.Bool.{Bool, true, false, ◌||◌, ◌&&◌}
 use mathlib.Core.Path.{◌≡◌, refl, sym, ap, ap₂, ◌∙◌}
 use mathlib.Core.List.{List, [], ◌∷◌, ◌++◌, append-nil}
 use Prim.Native.Nat.{ℕ, zero, suc, ◌+◌, ◌<◌, ◌≤◌}
-use native.Mathlib.Numerals.{add_one}
+use native.Mathlib.Numerals.{add-one}
 use native.Mathlib.Omega.{arith}
 use lib.ListN.{length, take, drop, drop_of_length-le}
 use lib.Seq.{take-suc, drop-cons}
@@ -156,7 +156,7 @@ module _ (table : List Definition) (shapes : List Shape) (vs : List Visit) (i : 
         let b : Bool = overlaps_one table shapes v (take i vs) in
         ap (overlapping table shapes (take i vs)) (drop-cons vs i no_visit h) ∙ next_register table shapes (take i vs) v (drop (suc i) vs) y
         ∙ ap (λ (l : List Visit). if b then f else overlapping table shapes l (drop (suc i) vs)) (sym (take-suc vs i no_visit h))
-        ∙ ap (λ (n : ℕ). if b then f else overlapping table shapes (take n vs) (drop n vs)) (sym (add_one i))
+        ∙ ap (λ (n : ℕ). if b then f else overlapping table shapes (take n vs) (drop n vs)) (sym (add-one i))
 
     from_hit : overlaps_one table shapes (visit_at vs i) (take i vs) ≡ true → overlapping table shapes (take i vs) (drop i vs) ≡ Refused 21 (visit_at vs i).name.start
     from_hit z =

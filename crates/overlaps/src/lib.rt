@@ -1,4 +1,6 @@
 // 21: the first register in map order that shares a byte with an earlier one unlawfully, found in the order of the addresses.
+#![tactic(auto)]
+
 ghost use Rattle.std.specs.Prelude.{◌≡◌, true, [], ◌<◌, ◌≤◌, length};
 ghost use Rattle.basics.specs.Limits.{register_limit};
 ghost use Rattle.orders.specs.Keys.{Keyed};
@@ -17,7 +19,7 @@ use orders::Bounds;
 use sizes::Extent;
 
 // A register of the log: its type's row, its address and its size in bytes.
-#[derive(Drop)]
+#[derive(Clone, Copy)]
 pub struct Plot {
     pub row: usize,
     pub address: Offset,
@@ -26,7 +28,7 @@ pub struct Plot {
 
 // A register's bytes, up to the one behind its last; and its access: it counts as readable unless every field is write_only_lem, and as
 // writable unless every field is read-only. Two registers may share a byte unless both count as readable or both as writable.
-#[derive(Drop)]
+#[derive(Clone, Copy)]
 pub struct Stretch {
     pub start: u64,
     pub end: u64,
@@ -35,7 +37,7 @@ pub struct Stretch {
 }
 
 // How far the registers passed reach, of the readable or of the writable ones, and which of them reaches so far.
-#[derive(Drop)]
+#[derive(Clone, Copy)]
 pub struct Side {
     pub end: u64,
     pub who: usize,

@@ -1,5 +1,7 @@
 // The parts of sentences: names, suffixes, instances, values, property statements and the headers of definitions.
 // Each reader answers what stands at a cursor with the cursor past it, or the refusal and its place: 3 where it has no number.
+#![tactic(auto)]
+
 ghost use Rattle.std.specs.Prelude.{◌≡◌};
 ghost use Rattle.expressions.specs.Reading.{ok, mapped};
 ghost use Rattle.parts.specs.Words.{role_of, role_kind, role_default, role_property, role_value, is_name, kind_of, is_kind, is_default, is_property, mark_number, is_mark, is_end};
@@ -12,7 +14,7 @@ use lex::{Token, Word};
 use vocabulary::{Keyword, Mark};
 
 // The kinds of component.
-#[derive(Drop)]
+#[derive(Clone, Copy)]
 pub enum Kind {
     Addrmap,
     Regfile,
@@ -21,7 +23,7 @@ pub enum Kind {
 }
 
 // What a kept keyword may be in a sentence.
-#[derive(Drop)]
+#[derive(Clone, Copy)]
 pub enum Role {
     Kind(Kind),
     Default,
@@ -30,55 +32,55 @@ pub enum Role {
     Value,
 }
 
-#[derive(Drop)]
+#[derive(Clone, Copy)]
 pub enum KindLookup {
     IsKind(Kind),
     NoKind,
 }
 
 // A name, from its first byte to past its last.
-#[derive(Drop)]
+#[derive(Clone, Copy)]
 pub struct Name {
     pub start: usize,
     pub end: usize,
 }
 
-#[derive(Drop)]
+#[derive(Clone, Copy)]
 pub enum NameReading {
     Done(Name, usize),
     Refused(usize),
 }
 
 // A cursor, and the token that stands there: whoever asks what follows need not read it again.
-#[derive(Drop)]
+#[derive(Clone, Copy)]
 pub struct Ahead {
     pub at: usize,
     pub token: Token,
 }
 
 // `[n]` or `[left:right]`, with the place of its first mark.
-#[derive(Drop)]
+#[derive(Clone, Copy)]
 pub enum Array {
     Missing,
     Size(usize, Number),
     Range(usize, Number, Number),
 }
 
-#[derive(Drop)]
+#[derive(Clone, Copy)]
 pub enum ArrayReading {
     Done(Array, Ahead),
     Refused(u8, usize),
 }
 
 // A mark and a number, with the mark's place.
-#[derive(Drop)]
+#[derive(Clone, Copy)]
 pub enum Suffix {
     Missing,
     Given(usize, Number),
 }
 
 // The suffixes behind an array, in their order: `= n`, `@ n`, `+= n`, `%= n`.
-#[derive(Drop)]
+#[derive(Clone, Copy)]
 pub enum SuffixKind {
     Reset,
     Address,
@@ -86,14 +88,14 @@ pub enum SuffixKind {
     Alignment,
 }
 
-#[derive(Drop)]
+#[derive(Clone, Copy)]
 pub enum SuffixReading {
     Done(Suffix, Ahead),
     Refused(u8, usize),
 }
 
 // An instance with its suffixes.
-#[derive(Drop)]
+#[derive(Clone, Copy)]
 pub struct Instance {
     pub name: Name,
     pub array: Array,
@@ -103,34 +105,34 @@ pub struct Instance {
     pub alignment: Suffix,
 }
 
-#[derive(Drop)]
+#[derive(Clone, Copy)]
 pub enum InstanceReading {
     Done(Instance, usize),
     Refused(u8, usize),
 }
 
 // The same with the token behind the instance.
-#[derive(Drop)]
+#[derive(Clone, Copy)]
 pub enum InstanceAheadReading {
     Done(Instance, Ahead),
     Refused(u8, usize),
 }
 
 // An instance of a list, and whether it is the list's last.
-#[derive(Drop)]
+#[derive(Clone, Copy)]
 pub struct ListItem {
     pub instance: Instance,
     pub last: bool,
 }
 
-#[derive(Drop)]
+#[derive(Clone, Copy)]
 pub enum ListItemReading {
     Done(ListItem, usize),
     Refused(u8, usize),
 }
 
 // A property's value, with its place; Missing where the property stands alone.
-#[derive(Drop)]
+#[derive(Clone, Copy)]
 pub enum Value {
     Missing,
     Number(Number),
@@ -138,20 +140,20 @@ pub enum Value {
     Word(Keyword, usize),
 }
 
-#[derive(Drop)]
+#[derive(Clone, Copy)]
 pub enum ValueLookup {
     IsValue(Value),
     NoValue,
 }
 
-#[derive(Drop)]
+#[derive(Clone, Copy)]
 pub enum ValueReading {
     Done(Value, usize),
     Refused(u8, usize),
 }
 
 // A property statement: whether it is a default, the property word's place and end, and the value.
-#[derive(Drop)]
+#[derive(Clone, Copy)]
 pub struct Assignment {
     pub defaulted: bool,
     pub start: usize,
@@ -159,21 +161,21 @@ pub struct Assignment {
     pub value: Value,
 }
 
-#[derive(Drop)]
+#[derive(Clone, Copy)]
 pub enum AssignmentReading {
     Done(Assignment, usize),
     Refused(u8, usize),
 }
 
 // The name of a definition, if it has one.
-#[derive(Drop)]
+#[derive(Clone, Copy)]
 pub enum DefinedName {
     Unnamed,
     Named(Name),
 }
 
 // The head of a definition: its kind, the kind word's place, its name, and its opening brace's place.
-#[derive(Drop)]
+#[derive(Clone, Copy)]
 pub struct Header {
     pub kind: Kind,
     pub place: usize,
@@ -181,7 +183,7 @@ pub struct Header {
     pub brace: usize,
 }
 
-#[derive(Drop)]
+#[derive(Clone, Copy)]
 pub enum HeaderReading {
     Done(Header, usize),
     Refused(usize),

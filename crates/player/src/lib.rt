@@ -1,4 +1,6 @@
 // Plays a log of accesses on the rows of a map and a store, part by part, and writes what each access answered and the fields' numbers.
+#![tactic(auto)]
+
 ghost use Rattle.std.specs.Prelude.{◌≡◌, [], ◌+◌, ◌*◌, ◌≤◌, length};
 ghost use Rattle.basics.specs.Limits.{register_limit, index_bound, nest_limit};
 ghost use Rattle.lines.specs.Sinks.{Pours};
@@ -14,7 +16,7 @@ use log_lines::{Expected, Line, LogLine};
 use model::{Access, Answer};
 
 // Where a log is read: the line that is being read, its number, and whether a malformed line has ended the play.
-#[derive(Drop)]
+#[derive(Clone, Copy)]
 pub struct Progress {
     pub line: Line,
     pub number: u64,
@@ -22,7 +24,7 @@ pub struct Progress {
 }
 
 // Where a log is read, and how far the output is filled.
-#[derive(Drop)]
+#[derive(Clone, Copy)]
 pub struct Played {
     pub progress: Progress,
     pub sink: Sink,

@@ -1,4 +1,6 @@
 // The property statements of a body: what each sets, and its fault by 7, 8 or 9.
+#![tactic(auto)]
+
 ghost use Rattle.std.specs.Prelude.{◌≡◌, eqb};
 ghost use Rattle.properties.specs.Assigned.{slot_number, given_in, replaced, assign, nearer, nearest, no_settings, nothing_assigned, settings_of, assigned};
 ghost use Rattle.properties.specs.Properties.{judge_value, judge_settled, judge_known, judge_property, judged_as};
@@ -10,7 +12,7 @@ use property_values::{Setting, Slot};
 use vocabulary::{Property, PropertyLookup};
 
 // What each property is set to.
-#[derive(Drop)]
+#[derive(Clone, Copy)]
 pub struct Settings {
     pub sw: Given,
     pub hw: Given,
@@ -26,14 +28,14 @@ pub struct Settings {
 }
 
 // A body's own settings and its defaults.
-#[derive(Drop)]
+#[derive(Clone, Copy)]
 pub struct Assigned {
     pub own: Settings,
     pub defaults: Settings,
 }
 
 // A fault's number and place, or what is set after a property statement.
-#[derive(Drop)]
+#[derive(Clone, Copy)]
 pub enum PropertyJudged {
     Refused(u8, usize),
     Done(Assigned),

@@ -1,4 +1,6 @@
 // What a property statement sets: where a property may stand (7), which property it sets, and to what (9).
+#![tactic(auto)]
+
 ghost use Rattle.std.specs.Prelude.{◌≡◌};
 ghost use Rattle.property_values.specs.Terms.{word_term};
 ghost use Rattle.property_values.specs.Settings.{group_of, is_addrmap, is_space, is_reg, is_field, is_for, is_defaultable, is_allowed, slot_of, term_of, wanted_of, is_alignment, list_number, listed_setting, short_setting, number_setting, text_setting, in_range, setting_as, setting_of, setting_numbers, value_place, value_refusal, wanted_refusal, refusal_in};
@@ -8,7 +10,7 @@ use parts::{Kind, Value};
 use vocabulary::{Keyword, Property};
 
 // The lists of words that values are taken from.
-#[derive(Drop)]
+#[derive(Clone, Copy)]
 pub enum WordList {
     Access,
     Onread,
@@ -18,7 +20,7 @@ pub enum WordList {
 }
 
 // What a value is: a word of a list with its number, a number, a string, or none of these.
-#[derive(Drop)]
+#[derive(Clone, Copy)]
 pub enum Term {
     Word(WordList, u64),
     Number(u64),
@@ -27,7 +29,7 @@ pub enum Term {
 }
 
 // The components that a property is for: fields, registers, address maps and regfiles, address maps, all.
-#[derive(Drop)]
+#[derive(Clone, Copy)]
 pub enum Group {
     OfField,
     OfReg,
@@ -37,7 +39,7 @@ pub enum Group {
 }
 
 // What a property statement sets.
-#[derive(Drop)]
+#[derive(Clone, Copy)]
 pub enum Slot {
     Sw,
     Hw,
@@ -53,7 +55,7 @@ pub enum Slot {
 }
 
 // What a property wants for its value.
-#[derive(Drop)]
+#[derive(Clone, Copy)]
 pub enum Wanted {
     Listed(WordList),
     Short(u64),
@@ -64,7 +66,7 @@ pub enum Wanted {
 }
 
 // The number that is set, or a value of wrong kind or range.
-#[derive(Drop)]
+#[derive(Clone, Copy)]
 pub enum Setting {
     Set(u64),
     Wrong,

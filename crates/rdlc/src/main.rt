@@ -1,4 +1,6 @@
 // Reads a text from standard input to its end and writes its listing, or one line with its refusal.
+#![tactic(auto)]
+
 use libc::{STDIN_FILENO, STDOUT_FILENO};
 
 // One byte more than a text may have, so that a longer one is seen to be; and the output's room.

@@ -1,4 +1,6 @@
 // Instances that are long to read, kept decoded on shelves behind the shapes: a pass that meets an instance again and again reads it once.
+#![tactic(auto)]
+
 ghost use Rattle.std.specs.Prelude.{◌≡◌, [], ◌+◌, ◌<◌, ◌≤◌, eqb};
 ghost use Rattle.basics.specs.Limits.{definition_limit, index_bound};
 ghost use Rattle.basics.specs.Slices.{cell_of, written};
@@ -24,7 +26,7 @@ pub const RECALL_SIZE: usize = sizes::SHAPES_SIZE + SHELF_COUNT * SHELF_WIDTH;
 
 // A suffix in cells: 0 where it is missing, 1 where its number is sound, 2 where an operator refuses it; the places of mark and number,
 // the number's value, and the operator's place.
-#[derive(Drop)]
+#[derive(Clone, Copy)]
 pub struct Encoded {
     pub tag: u64,
     pub place: u64,

@@ -1,4 +1,6 @@
 // A register in the log, in nine numbers: a head with its address, its type's row and its path's length, and the steps of its path.
+#![tactic(auto)]
+
 ghost use Rattle.std.specs.Prelude.{◌≡◌, ◌<◌};
 ghost use Rattle.basics.specs.Limits.{definition_limit};
 ghost use Rattle.register_log.specs.Log.{address_bound, depth_bound, place_bound, head_of, head_address, head_row, head_depth, step_of, step_start, step_end, step_index};

@@ -1,5 +1,7 @@
 // `replay MAP LOG`: plays a log of accesses on the map of a SystemRDL text, from the reset store. Writes a line for each access and then the
 // number of each field, or one line with the map's refusal. What goes wrong with a file is said on standard error.
+#![tactic(auto)]
+
 ghost use Rattle.std.specs.Prelude.{◌≤◌};
 ghost use Rattle.io.specs.Counts.{IsPrefixLen};
 
@@ -17,14 +19,14 @@ const PART: usize = 512;
 const OUTPUT: usize = 128 * PART;
 
 // A text that was read: whether it could be, and its length.
-#[derive(Drop)]
+#[derive(Clone, Copy)]
 struct TextRead {
     done: bool,
     length: usize,
 }
 
 // Where a log is read, whether there may be more to play, and whether it could be read and shown so far.
-#[derive(Drop)]
+#[derive(Clone, Copy)]
 struct Turn {
     progress: Progress,
     more: bool,

@@ -1,6 +1,8 @@
 // Replays the cases of the conformance pack data/replay.pack (for each the u32 lengths of text, log and answer, then these), the log cut
 // into parts, and the example posts of data/. Writes a line for each case whose answer differs and how many agree, then a line for each
 // example: whether its listing and what its log plays are those of the files beside it.
+#![tactic(auto)]
+
 ghost use Rattle.std.specs.Prelude.{◌≤◌};
 ghost use Rattle.io.specs.Counts.{IsPrefixLen};
 
@@ -13,7 +15,7 @@ use player::Played;
 const ROOM: usize = 65536;
 
 // What a case comes to.
-#[derive(Drop)]
+#[derive(Clone, Copy)]
 enum CaseOutcome {
     Agrees,
     Differs,

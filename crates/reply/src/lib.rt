@@ -1,4 +1,6 @@
 // What the program answers to a text: its listing, or one line with its refusal.
+#![tactic(auto)]
+
 ghost use Rattle.std.specs.Prelude.{◌≡◌, length};
 ghost use Rattle.rows.specs.Rows.{tables};
 ghost use Rattle.rows.specs.Reading.{rows_in};

@@ -1,4 +1,6 @@
 // Writes the rows of a map into four lent tables.
+#![tactic(auto)]
+
 ghost use Rattle.std.specs.Prelude.{◌≡◌, [], ◌++◌, ◌+◌, ◌*◌, ◌<◌, ◌≤◌, length, set};
 ghost use Rattle.basics.specs.Limits.{nest_limit, register_limit, field_limit, register_row_width, field_row_width, path_row_width, index_bound, sum_bound};
 ghost use Rattle.basics.specs.Slices.{written};

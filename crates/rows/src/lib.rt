@@ -1,5 +1,7 @@
 // The rows of a map in four tables, and whether rows are lawful.
 // A register's row has 14 numbers, its path 9 names of 32 bytes; a field's row has 8 numbers, its label is a name of 32 bytes.
+#![tactic(auto)]
+
 ghost use Rattle.std.specs.Prelude.{◌≡◌, ◌+◌, ◌*◌, ◌≤◌};
 ghost use Rattle.basics.specs.Limits.{nest_limit, register_limit, field_limit, field_row_width, index_bound, sum_bound};
 ghost use Rattle.rows.specs.Rows.{tables};
@@ -13,7 +15,7 @@ const STEPS: u64 = basics::NEST_LIMIT as u64;
 const NAMES: u64 = STEPS + 1;
 
 // A register's address, widths, first field row and number of field rows, and the number of names below the map.
-#[derive(Drop)]
+#[derive(Clone, Copy)]
 pub struct RegisterRow {
     pub address: Offset,
     pub width: u64,

@@ -1,5 +1,7 @@
 // Runs the rule cases of standard input (for each a little-endian u32 length, then the text) and writes a line for each: the first
 // refusal by the words, by the sentences if those pass, or by the rules if both pass. tests/rule_cases.py makes the cases.
+#![tactic(auto)]
+
 use case_io::{LONGEST_TEXT, MOST_CASES};
 
 // Runs the next case; answers whether there was one.

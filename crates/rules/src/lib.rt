@@ -1,5 +1,7 @@
 // The rules stage: the first fault of a text by 5 to 17, and by 18 for definitions, or what its definitions mean. One walk over the
 // text, with a table of the definitions that are closed and of the instances; no tree is kept.
+#![tactic(auto)]
+
 ghost use Rattle.std.specs.Prelude.{◌≡◌, ◌+◌, ◌*◌, ◌<◌, ◌≤◌, length};
 ghost use Rattle.basics.specs.Limits.{text_limit, definition_limit};
 ghost use Rattle.lex.specs.Words.{verdict_numbers};

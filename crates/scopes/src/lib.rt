@@ -1,4 +1,6 @@
 // Places of a text: what may stand there, and what the walk over the text knows there.
+#![tactic(auto)]
+
 ghost use Rattle.std.specs.Prelude.{◌≡◌, ◌||◌, ◌&&◌, ◌+◌, ◌<◌, ◌≤◌, eqb};
 ghost use Rattle.basics.specs.Limits.{definition_limit};
 ghost use Rattle.lex.specs.Words.{verdict_numbers};
@@ -21,7 +23,7 @@ use properties::{Assigned, PropertyJudged, Settings};
 use vocabulary::Mark;
 
 // Where a sentence stands: at the root, or in the body of a component.
-#[derive(Drop)]
+#[derive(Clone, Copy)]
 pub enum Enclosing {
     Root,
     Inside(Kind),
@@ -30,7 +32,7 @@ pub enum Enclosing {
 // What is known at a place of a body: the cursor; the type declared last, as its row's number and one more; how many definitions are
 // closed, and how many instances these have; how many instances the open bodies have; how many definitions were opened; the address map's row;
 // and what is set.
-#[derive(Drop)]
+#[derive(Clone, Copy)]
 pub struct Progress {
     pub at: usize,
     pub head: usize,
@@ -43,7 +45,7 @@ pub struct Progress {
 }
 
 // A fault's number and place, or what is known behind an element.
-#[derive(Drop)]
+#[derive(Clone, Copy)]
 pub enum Progressed {
     Refused(u8, usize),
     Done(Progress),
@@ -51,7 +53,7 @@ pub enum Progressed {
 
 // Where an element stands: the kind of place; how many instances the open bodies around have, and their type declared last; and their
 // defaults.
-#[derive(Drop)]
+#[derive(Clone, Copy)]
 pub struct Scope {
     pub enclosing: Enclosing,
     pub first: usize,
@@ -60,14 +62,14 @@ pub struct Scope {
 }
 
 // The instances of a list, behind those that a body holds: how many the open bodies have then and the cursor past them, or a fault.
-#[derive(Drop)]
+#[derive(Clone, Copy)]
 pub enum ListJudged {
     Refused(u8, usize),
     Done(usize, usize),
 }
 
 // A fault's number and place; or the row of the address map, and how many definitions there are.
-#[derive(Drop)]
+#[derive(Clone, Copy)]
 pub enum Ruling {
     Refused(u8, usize),
     Accepted(usize, usize),

@@ -1,5 +1,7 @@
 // Runs the sentence cases of standard input (for each a little-endian u32 length, then the text) and writes a line for each: the
 // first refusal by the words or, if they pass, by the sentences. tests/sentence_cases.py makes the cases.
+#![tactic(auto)]
+
 use case_io::{LONGEST_TEXT, MOST_CASES};
 use lex::Verdict;
 

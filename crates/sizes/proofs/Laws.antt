@@ -3,7 +3,7 @@ use mathlib.Core.Bool.{Bool, true, false}
 use mathlib.Core.Path.{◌≡◌, refl, sym, ap, ◌∙◌}
 use mathlib.Core.List.{List, [], ◌∷◌, ◌++◌}
 use Prim.Native.Nat.{ℕ, zero, suc, ◌+◌, ◌-◌, ◌*◌, ◌/◌, ◌^◌, ◌<◌, ◌≤◌}
-use native.Mathlib.Numerals.{add_one}
+use native.Mathlib.Numerals.{add-one}
 use native.Mathlib.Omega.{arith}
 use lib.Dec.{leb}
 use lib.ListN.{length, set, get_or, take, drop, length-append, length-drop}
@@ -163,7 +163,7 @@ pub record Ahead (text t : List ℕ) (table : List Definition) (h : Component) (
 pub ahead_of : {text t : List ℕ} {table : List Definition} {h : Component} {i to : ℕ} {rest : List Child} → i < to → i + length rest ≡ to → Block text t i rest → ChildrenFit table h rest → Ahead text t table h i rest
 ahead_of l e block_end f = absurd (omega arith)
 ahead_of l e (block_on {c = c} {cs = cs} x b) (children_more y f) =
-    record { child = c; others = cs; whole = refl; entry = x; block = rw add_one b; fits = y; children = f }
+    record { child = c; others = cs; whole = refl; entry = x; block = rw add-one b; fits = y; children = f }
 
 pub none_left : {text t : List ℕ} {i to : ℕ} {rest : List Child} → to ≤ i → i + length rest ≡ to → Block text t i rest → rest ≡ []
 none_left l e block_end = refl
@@ -430,7 +430,7 @@ module _ (text t s₀ : List ℕ) (e : Extent) {s : List ℕ} {row : ℕ} (f : F
         drop-cons s₀ at 0 (omega (arith, k))
         ∙ ap (λ (l : List ℕ). get_or s₀ at 0 ∷ l) (drop-cons s₀ (suc at) 0 (omega (arith, k)) ∙ ap (λ (j : ℕ). get_or s₀ (suc at) 0 ∷ drop j s₀) z) in
         let more : take (row + 1) all ≡ take row all ++ (shape_at all row ∷ []) =
-        ap (λ (j : ℕ). take j all) (add_one row) ∙ take-suc all row no_shape (omega (arith, h, all_length text t e f.ready)) in
+        ap (λ (j : ℕ). take j all) (add-one row) ∙ take-suc all row no_shape (omega (arith, h, all_length text t e f.ready)) in
         filling_by text t s₀ e f.ready f.long (omega (arith, h))
         (g ∙ ap (λ (l : List ℕ). set (set l at shape.size) (at + 1) shape.access) (f.same ∙ ap (λ (l : List ℕ). front ++ l) behind)
         ∙ cells_put front (get_or s₀ at 0) (get_or s₀ (suc at) 0) shape.size shape.access at rest m

@@ -1,4 +1,6 @@
 // The sizes and access widths of a text's definitions, in the order of closing braces: a definition is made of earlier ones only.
+#![tactic(auto)]
+
 ghost use Rattle.std.specs.Prelude.{◌≡◌, ◌++◌, ◌+◌, ◌*◌, ◌/◌, ◌<◌, ◌≤◌, length, drop, set};
 ghost use Rattle.basics.specs.Limits.{definition_limit};
 ghost use Rattle.capped.specs.Offsets.{larger};
@@ -17,7 +19,7 @@ const SHAPE_WIDTH: usize = 2;
 pub const SHAPES_SIZE: usize = basics::DEFINITION_LIMIT * SHAPE_WIDTH;
 
 // How many definitions the cells hold, the map's row and its mode.
-#[derive(Drop)]
+#[derive(Clone, Copy)]
 pub struct Extent {
     pub rows: usize,
     pub map: usize,

@@ -1,4 +1,6 @@
 // The suffixes of an instance: which may stand (11) and which numbers they take (9); and the bits that a field's suffix gives it.
+#![tactic(auto)]
+
 ghost use Rattle.std.specs.Prelude.{◌≡◌};
 ghost use Rattle.suffixes.specs.Suffixes.{ranged, settled_fault, is_size, is_range, size_fault, range_fault, array_fault, suffix_range, number_fault, suffix_fault, is_array, is_given, is_barred, instance_fault};
 

@@ -1,5 +1,7 @@
 // The sentence stage: whether a text keeps the grammar, and if not, where it first breaks. The readers keep no tree; the grammar's
 // definitions give it.
+#![tactic(auto)]
+
 ghost use Rattle.std.specs.Prelude.{◌≡◌};
 ghost use Rattle.syntax.specs.Grammar.{instances_at, instance_statement_at, statement_at, tail_at, body_at, definition_at, file_at};
 ghost use Rattle.parts.specs.Parts.{property_at};
@@ -11,7 +13,7 @@ use parts::{AssignmentReading, HeaderReading, ListItemReading, NameReading};
 use vocabulary::Mark;
 
 // The cursor past what was read, or the refusal's number and place.
-#[derive(Drop)]
+#[derive(Clone, Copy)]
 pub enum GrammarReading {
     Done(usize),
     Refused(u8, usize),

@@ -1,5 +1,7 @@
 // Refusals 22 and 24 of compiling and listing: tables and outputs that are too short by one or just fit, rows that are not lawful, and
 // lawful rows that no text gives.
+#![tactic(auto)]
+
 use compile::Compiled;
 use fields::ReadEffect;
 use listing::Listed;

@@ -1,12 +1,14 @@
 // Answers each text of the conformance pack data/level-03.pack (for each case the u32 lengths of the text and of the answer, then both) as
 // the program does. Writes a line for each text on which they differ, then how many there are and on how many they agree.
+#![tactic(auto)]
+
 use case_io::MOST_CASES;
 
 // The program's output buffer.
 const OUTPUT: usize = 65536;
 
 // What a case comes to.
-#[derive(Drop)]
+#[derive(Clone, Copy)]
 enum CaseOutcome {
     Agrees,
     Differs,

@@ -1,5 +1,7 @@
 // The keywords of document 004, the properties that the course takes and the marks. Each keyword and property is a fixed byte string
 // compared with the word, a keyword only with words of its length and first byte; a mark is known by its one or two bytes.
+#![tactic(auto)]
+
 ghost use Rattle.std.specs.Prelude.{◌≡◌, length, [], ◌∷◌};
 ghost use Rattle.vocabulary.specs.Vocabulary.{chosen, entry, keyword_of, property_name, property_of, access_properties, effect_properties, other_properties, mark_bytes, mark_of};
 ghost use Rattle.vocabulary.specs.Candidates.{keyword_among, candidates};
@@ -7,7 +9,7 @@ ghost use Rattle.vocabulary.specs.Candidates.{keyword_among, candidates};
 use chars::same;
 
 // The kept keywords.
-#[derive(Drop)]
+#[derive(Clone, Copy)]
 pub enum Keyword {
     Addrmap,
     Regfile,
@@ -39,7 +41,7 @@ pub enum Keyword {
 }
 
 // What a word is among the keywords.
-#[derive(Drop)]
+#[derive(Clone, Copy)]
 pub enum Lookup {
     Kept(Keyword),
     LeftOut,
@@ -47,7 +49,7 @@ pub enum Lookup {
 }
 
 // The properties.
-#[derive(Drop)]
+#[derive(Clone, Copy)]
 pub enum Property {
     Sw,
     Hw,
@@ -67,14 +69,14 @@ pub enum Property {
 }
 
 // What a word is among the properties.
-#[derive(Drop)]
+#[derive(Clone, Copy)]
 pub enum PropertyLookup {
     Known(Property),
     Unknown,
 }
 
 // The marks.
-#[derive(Drop)]
+#[derive(Clone, Copy)]
 pub enum Mark {
     OpenBrace,
     CloseBrace,
@@ -108,7 +110,7 @@ pub enum Mark {
 }
 
 // What some bytes are among the marks.
-#[derive(Drop)]
+#[derive(Clone, Copy)]
 pub enum MarkLookup {
     IsMark(Mark),
     NoMark,

@@ -1,5 +1,7 @@
 // Runs the word cases of standard input (for each a little-endian u32 length, then the text) and writes a line for each: the
 // first tokens, how many there are up to the end or a bad word, and the first refusal. tests/word_cases.py makes the cases.
+#![tactic(auto)]
+
 use case_io::{LONGEST_TEXT, MOST_CASES, put, put_number};
 use lex::{Cause, Token, Word};
 

@@ -1,0 +1,7 @@
+-- Within the text it is the byte; past the end it is 0.
+use lib.ListN.{get_or-eq_default}
+use mathlib.Core.Path.{sym}
+use Rattle.chars.proofs.byte_at.Goals as goal
+
+pub returns : goal.returns
+returns c = sym (get_or-eq_default c.args.text.now 0 c.if-i-text.false)
