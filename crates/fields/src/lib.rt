@@ -153,6 +153,7 @@ pub fn mode_code(mode: Mode) -> u64
 }
 
 // "8, 16, 32, 64"
+#[tactic(auto, unfolding(crate::specs::Codes::is_width))]
 pub fn is_width(n: u64) -> bool
     ensures { result ≡ is_width n }
 {
@@ -168,6 +169,7 @@ pub fn is_width(n: u64) -> bool
     n == 64
 }
 
+#[tactic(auto, unfolding(crate::specs::Fields::is_readable))]
 pub fn is_readable(field: FieldType) -> bool
     ensures { result ≡ is_readable field }
 {
@@ -177,6 +179,7 @@ pub fn is_readable(field: FieldType) -> bool
     field.sw == access_code(AccessRight::Rw)
 }
 
+#[tactic(auto, unfolding(crate::specs::Fields::is_writable))]
 pub fn is_writable(field: FieldType) -> bool
     ensures { result ≡ is_writable field }
 {
@@ -301,6 +304,7 @@ fn spans_parts(part: u64, field: FieldAt) -> bool
 }
 
 // Whether a field of a register breaks a rule.
+#[tactic(auto, unfolding(crate::specs::Fields::breaks, crate::specs::Fields::is_outside))]
 pub fn breaks_rule(probe: Probe, field: FieldAt) -> bool
     requires { field.high.0 < 18446744073709551615 }
     ensures { result ≡ breaks probe field }

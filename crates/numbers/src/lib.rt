@@ -86,6 +86,7 @@ pub fn base_of(radix: Radix) -> u64
     }
 }
 
+#[tactic(auto, unfolding(crate::specs::Number::radix_of))]
 fn radix_of(letter: u8) -> RadixLookup
     ensures { result ≡ radix_of letter }
 {

@@ -139,6 +139,7 @@ fn truth_of(holds: bool) -> Computed
 }
 
 // What an operator gives between two numbers.
+#[tactic(auto, unfolding(crate::specs::Operators::result_of))]
 pub fn apply(operator: Operator, a: u64, b: u64) -> Computed
     ensures { result ≡ result_of operator a b }
 {

@@ -30,6 +30,7 @@ module _ (key : List ℕ → ℕ) (n : ℕ) where
 
     having_only : (ks : List KeywordEntry) → In k (having key n ks) → In k ks × (key k.word ≡ n)
     unfolding having
+    having_only [] i = elim i [ ]
     having_only (j ∷ ks) i = by (eqb (key j.word) n) refl (having_only ks) i
       where
         by : (t : Bool) → eqb (key j.word) n ≡ t → (In k (having key n ks) → In k ks × (key k.word ≡ n))
@@ -39,6 +40,7 @@ module _ (key : List ℕ → ℕ) (n : ℕ) where
 
     having_all : key k.word ≡ n → (ks : List KeywordEntry) → In k ks → In k (having key n ks)
     unfolding having
+    having_all e [] x' = elim x' [ ]
     having_all e (j ∷ ks) in_here = rw (eq-eqb _ _ e) in_here
     having_all e (j ∷ ks) (in_later i) = either (λ (l : List KeywordEntry). In k l) (eqb (key j.word) n) (λ _. in_later (having_all e ks i)) (λ _. having_all e ks i)
 

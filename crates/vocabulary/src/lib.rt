@@ -155,6 +155,7 @@ fn left_out(word: &[u8], text: &[u8]) -> Lookup
 }
 
 // Each function below has the keywords of one length, and compares a word with those of them that begin with `first`.
+#[tactic(auto, unfolding(crate::specs::Candidates::having, crate::specs::Candidates::candidates))]
 fn one_byte_keyword(word: &[u8], first: u8) -> Lookup
     ensures { result ≡ keyword_among (candidates 1 first) word.now }
 {
@@ -165,6 +166,7 @@ fn one_byte_keyword(word: &[u8], first: u8) -> Lookup
     }
 }
 
+#[tactic(auto, unfolding(crate::specs::Candidates::having, crate::specs::Candidates::candidates))]
 fn two_byte_keyword(word: &[u8], first: u8) -> Lookup
     ensures { result ≡ keyword_among (candidates 2 first) word.now }
 {
@@ -181,6 +183,7 @@ fn two_byte_keyword(word: &[u8], first: u8) -> Lookup
     }
 }
 
+#[tactic(auto, unfolding(crate::specs::Candidates::having, crate::specs::Candidates::candidates))]
 fn three_byte_keyword(word: &[u8], first: u8) -> Lookup
     ensures { result ≡ keyword_among (candidates 3 first) word.now }
 {
@@ -203,6 +206,7 @@ fn three_byte_keyword(word: &[u8], first: u8) -> Lookup
     }
 }
 
+#[tactic(auto, unfolding(crate::specs::Candidates::having, crate::specs::Candidates::candidates))]
 fn four_byte_keyword(word: &[u8], first: u8) -> Lookup
     ensures { result ≡ keyword_among (candidates 4 first) word.now }
 {
@@ -225,6 +229,7 @@ fn four_byte_keyword(word: &[u8], first: u8) -> Lookup
     }
 }
 
+#[tactic(auto, unfolding(crate::specs::Candidates::having, crate::specs::Candidates::candidates))]
 fn five_byte_keyword(word: &[u8], first: u8) -> Lookup
     ensures { result ≡ keyword_among (candidates 5 first) word.now }
 {
@@ -245,6 +250,7 @@ fn five_byte_keyword(word: &[u8], first: u8) -> Lookup
     }
 }
 
+#[tactic(auto, unfolding(crate::specs::Candidates::having, crate::specs::Candidates::candidates))]
 fn six_byte_keyword(word: &[u8], first: u8) -> Lookup
     ensures { result ≡ keyword_among (candidates 6 first) word.now }
 {
@@ -261,6 +267,7 @@ fn six_byte_keyword(word: &[u8], first: u8) -> Lookup
     }
 }
 
+#[tactic(auto, unfolding(crate::specs::Candidates::having, crate::specs::Candidates::candidates))]
 fn seven_byte_keyword(word: &[u8], first: u8) -> Lookup
     ensures { result ≡ keyword_among (candidates 7 first) word.now }
 {
@@ -277,6 +284,7 @@ fn seven_byte_keyword(word: &[u8], first: u8) -> Lookup
     }
 }
 
+#[tactic(auto, unfolding(crate::specs::Candidates::having, crate::specs::Candidates::candidates))]
 fn eight_byte_keyword(word: &[u8], first: u8) -> Lookup
     ensures { result ≡ keyword_among (candidates 8 first) word.now }
 {
@@ -292,6 +300,7 @@ fn eight_byte_keyword(word: &[u8], first: u8) -> Lookup
     }
 }
 
+#[tactic(auto, unfolding(crate::specs::Candidates::having, crate::specs::Candidates::candidates))]
 fn nine_byte_keyword(word: &[u8], first: u8) -> Lookup
     ensures { result ≡ keyword_among (candidates 9 first) word.now }
 {
@@ -303,6 +312,7 @@ fn nine_byte_keyword(word: &[u8], first: u8) -> Lookup
     }
 }
 
+#[tactic(auto, unfolding(crate::specs::Candidates::having, crate::specs::Candidates::candidates))]
 fn ten_byte_keyword(word: &[u8], first: u8) -> Lookup
     ensures { result ≡ keyword_among (candidates 10 first) word.now }
 {
@@ -314,6 +324,7 @@ fn ten_byte_keyword(word: &[u8], first: u8) -> Lookup
     }
 }
 
+#[tactic(auto, unfolding(crate::specs::Candidates::having, crate::specs::Candidates::candidates))]
 fn eleven_byte_keyword(word: &[u8], first: u8) -> Lookup
     ensures { result ≡ keyword_among (candidates 11 first) word.now }
 {
@@ -323,6 +334,7 @@ fn eleven_byte_keyword(word: &[u8], first: u8) -> Lookup
     }
 }
 
+#[tactic(auto, unfolding(crate::specs::Candidates::having, crate::specs::Candidates::candidates))]
 fn fourteen_byte_keyword(word: &[u8], first: u8) -> Lookup
     ensures { result ≡ keyword_among (candidates 14 first) word.now }
 {
@@ -447,6 +459,7 @@ pub fn keyword_of(word: &[u8]) -> Lookup
 }
 
 // Which property a word names.
+#[tactic(auto, unfolding(crate::specs::Vocabulary::property_of))]
 pub fn property_of(word: &[u8]) -> PropertyLookup
     ensures { result ≡ property_of word.now }
 {
@@ -456,6 +469,7 @@ pub fn property_of(word: &[u8]) -> PropertyLookup
 }
 
 // Which mark a byte is.
+#[tactic(auto, unfolding(chars::specs::Same::same_bytes, crate::specs::Vocabulary::chosen, crate::specs::Vocabulary::entry, crate::specs::Vocabulary::mark_of))]
 pub fn single_mark(byte: u8) -> MarkLookup
     ensures { result ≡ mark_of (byte ∷ []) }
 {
@@ -486,6 +500,7 @@ pub fn single_mark(byte: u8) -> MarkLookup
 }
 
 // Which mark a byte and an equals sign are.
+#[tactic(auto, unfolding(chars::specs::Same::same_bytes, crate::specs::Vocabulary::chosen, crate::specs::Vocabulary::entry, crate::specs::Vocabulary::mark_of))]
 fn equals_mark(first: u8) -> MarkLookup
     ensures { result ≡ mark_of (first ∷ 61 ∷ []) }
 {
@@ -501,6 +516,7 @@ fn equals_mark(first: u8) -> MarkLookup
 }
 
 // Which mark a byte and another than an equals sign are.
+#[tactic(auto, unfolding(chars::specs::Same::same_bytes, crate::specs::Vocabulary::chosen, crate::specs::Vocabulary::entry, crate::specs::Vocabulary::mark_of))]
 fn twice_mark(first: u8, second: u8) -> MarkLookup
     requires { second ≡ 61 → ⊥ }
     ensures { result ≡ mark_of (first ∷ second ∷ []) }
