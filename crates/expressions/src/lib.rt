@@ -88,6 +88,7 @@ fn mark_part(mark: Mark) -> ExpressionWord
 }
 
 // What a word is in an expression.
+#[tactic(auto, unfolding(crate::specs::Words::part_of))]
 fn part_of(word: Word) -> ExpressionWord
     ensures { result ≡ part_of word }
 {
@@ -113,6 +114,7 @@ fn in_row(operator: Operator, row: usize) -> OperatorLookup
 }
 
 // The operator that a part is, where it has that row.
+#[tactic(auto, unfolding(crate::specs::Words::operator_in))]
 fn operator_in(part: ExpressionWord, row: usize) -> OperatorLookup
     ensures { result ≡ operator_in row part }
 {
@@ -150,6 +152,7 @@ fn is_close(part: ExpressionWord) -> bool
 }
 
 // The refusal that stands first, of a left part's and a right part's.
+#[tactic(auto, unfolding(crate::specs::Value::earlier))]
 fn first_of(left: Refusal, right: Refusal) -> Refusal
     ensures { result ≡ earlier left right }
 {
@@ -160,6 +163,7 @@ fn first_of(left: Refusal, right: Refusal) -> Refusal
 }
 
 // What the operator at `operator_place` gives, in an expression that begins at `place`.
+#[tactic(auto, unfolding(crate::specs::Value::given))]
 fn give(operator_place: usize, place: usize, outcome: Computed) -> Number
     ensures { result ≡ given operator_place place outcome }
 {
@@ -178,6 +182,7 @@ fn give(operator_place: usize, place: usize, outcome: Computed) -> Number
 }
 
 // No operator over a refused part is judged.
+#[tactic(auto, unfolding(crate::specs::Value::settled))]
 fn settle(refusal: Refusal, place: usize, judged: Number) -> Number
     ensures { result ≡ settled refusal place judged }
 {
