@@ -4,8 +4,8 @@ use Rattle.parts.proofs.is_kind.Goals as goal
 
 pub returns-in-IsKind : goal.returns-in-IsKind
 unfolding is_kind
-returns-in-IsKind c = rw (← c.before.before.kind_is.ensures, c.enum_told.given.1)
+returns-in-IsKind c = rw (← c.kind_of.ensures, c.in-IsKind.is)
 
 pub returns-in-NoKind : goal.returns-in-NoKind
 unfolding is_kind
-returns-in-NoKind c = rw (← c.before.before.kind_is.ensures, c.enum-told2.given.1)
+returns-in-NoKind c = rw (← c.kind_of.ensures, c.in-NoKind.is)
