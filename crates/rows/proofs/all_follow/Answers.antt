@@ -1,4 +1,3 @@
-use Prim.Native.Nat.{◌-◌}
 use Rattle.rows.proofs.Names.{follow_loop}
 use Rattle.rows.proofs.all_follow.Goals as goal
 

@@ -1,4 +1,3 @@
-use Prim.Native.Nat.{◌-◌}
 use Rattle.rows.proofs.Fields.{run_loop}
 use Rattle.rows.proofs.are_field_rows.Goals as goal
 

@@ -1,5 +1,4 @@
 use borrow.Author.Rules.{rules}
-use Prim.Native.Nat.{◌-◌}
 use Rattle.rows.proofs.Names.{index_loop}
 use Rattle.rows.proofs.are_indices.Goals as goal
 

@@ -1,5 +1,4 @@
 use borrow.Author.Rules.{rules}
-use Prim.Native.Nat.{◌-◌}
 use Rattle.rows.proofs.Registers.{rows_start, rows_end_lem, rows_stop, row_fits, rows_on}
 use Rattle.rows.proofs.are_rows.Goals as goal
 

@@ -1,4 +1,3 @@
-use Prim.Native.Nat.{◌-◌}
 use Rattle.rows.proofs.Names.{same_loop}
 use Rattle.rows.proofs.are_same.Goals as goal
 

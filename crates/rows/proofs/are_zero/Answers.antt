@@ -1,4 +1,3 @@
-use Prim.Native.Nat.{◌-◌}
 use Rattle.rows.proofs.Names.{zero_loop}
 use Rattle.rows.proofs.are_zero.Goals as goal
 
