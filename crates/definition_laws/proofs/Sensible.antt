@@ -87,7 +87,7 @@ held_later {table} {later} e (held_more {c = c} x xs) =
     let z : definition_of later c.type ≡ definition_of table c.type = e.same c.type x.before in
     held_more {c = c} (record { before = omega (arith, x.before, e.longer); sound = rw z x.sound; held = rw z x.held }) (held_later e xs)
 
-held_children : {table : List Definition} {cs : List Child} (k : Kind) (holder : Component) → kind_of holder ≡ k → AllHeld table (Inside k) cs → ChildrenFit table holder cs
+held_children : {table : List Definition} (k : Kind) (holder : Component) → kind_of holder ≡ k → {cs : List Child} → AllHeld table (Inside k) cs → ChildrenFit table holder cs
 held_children k holder e held_none = children_none
 held_children k holder e (held_more x xs) = children_more (record { before = x.before; sound = x.sound; held = rw e x.held }) (held_children k holder e xs)
 

@@ -18,7 +18,7 @@ use Rattle.syntax.specs.Grammar.{file_at}
 use Rattle.basics.specs.Judged.{Judged, fault, fine}
 use Rattle.rules.specs.Judge.{Meaning, judge}
 use Rattle.rules.specs.Rules.{after_words, after_sentences, ruled}
-use Rattle.order_laws.specs.Order.{Check, check, checks_of, first_failing, fault_of, Before, Ordered, ordered_on, Foremost}
+use Rattle.order_laws.specs.Order.{Check, check, checks_of, first_failing, fault_of, Before, Ordered, ordered_none, ordered_on, Foremost}
 use Rattle.order_laws.proofs.First.{judge_first}
 use Rattle.order_laws.proofs.Sorted.{checks_ordered}
 
@@ -26,7 +26,7 @@ apart : {X : Type 0} {n p : ℕ} → finding.None ≡ finding.Refused n p → X
 apart e = absurd (let z : ◌≡◌ {A = ℕ} 0 1 = cc in omega arith)
 
 -- the first check that fails, or none
-first_none : {cs : List Check} {c : Check} → first_failing cs ≡ finding.None → In c cs → c.fails ≡ false
+first_none : {c : Check} {cs : List Check} → first_failing cs ≡ finding.None → In c cs → c.fails ≡ false
 unfolding first_failing
 first_none {c = c} e (in_here {xs = cs}) = by c.fails e
   where
@@ -62,6 +62,7 @@ not_after d c x y (inr w) = inr (sym y ∙ w.0, omega (arith, x, w.1))
 
 first_smallest : {cs : List Check} {n p : ℕ} {c : Check} → Ordered cs → first_failing cs ≡ finding.Refused n p → In c cs → c.fails ≡ true → NotAfter n p c
 unfolding first_failing
+first_smallest {n = n} {p = p} {c = c} ordered_none e x7 f = elim x7 [ ]
 first_smallest {n = n} {p} {c} (ordered_on {cs = cs} o r) e in_here f = by c.fails f e
   where
     by : (b : Bool) → b ≡ true → (if b then finding.Refused c.number c.place else first_failing cs) ≡ finding.Refused n p → NotAfter n p c

@@ -102,6 +102,7 @@ rises_le (rises_none h) = h
 rises_le (rises_on a b r) = let w = rises_le r in omega arith
 
 rises_in : {low high : ℕ} {cs : List Check} {c : Check} → Rises low cs high → In c cs → (low ≤ c.place * 32 + c.number) × (c.number < 32)
+rises_in {c = c} (rises_none {low = low} {high = high} _) x6 = elim x6 [ ]
 rises_in (rises_on a b r) in_here = (a, b)
 rises_in (rises_on a b r) (in_later i) = let w = rises_in r i in (omega arith, w.1)
 
