@@ -2,6 +2,8 @@
 // lawful rows that no text gives.
 #![tactic(auto)]
 
+ghost use Rattle.std.specs.Prelude.{◌<◌, length};
+
 use compile::Compiled;
 use fields::ReadEffect;
 use listing::Listed;
@@ -216,14 +218,55 @@ fn no_rows<W: Write>(out: &mut W) -> io::Result<()> {
     )
 }
 
+// Lists the rows with a width that no register has, to an output that fits and to one that is too short, and with their own width again.
+fn show_widths<W: Write>(
+    out: &mut W,
+    registers: &mut [u64],
+    paths: &[u8],
+    fields: &[u64],
+    labels: &[u8],
+) -> io::Result<()>
+    requires { 1 < length registers.old }
+{
+    let mut short = [BYTE; 104];
+    let mut output = [BYTE; 105];
+    registers[1] = 33;
+    show_listed(
+        out,
+        b"width 33:",
+        registers,
+        paths,
+        fields,
+        labels,
+        &mut output,
+    )?;
+    show_listed(
+        out,
+        b"width 33, output short:",
+        registers,
+        paths,
+        fields,
+        labels,
+        &mut short,
+    )?;
+    registers[1] = 32;
+    show_listed(
+        out,
+        b"width 32 again:",
+        registers,
+        paths,
+        fields,
+        labels,
+        &mut output,
+    )
+}
+
 // Rows that are not lawful are 24, also where the output is too short.
 fn not_lawful<W: Write>(out: &mut W) -> io::Result<()> {
     let mut registers = [NUMBER; 14];
     let mut paths = [BYTE; 288];
     let mut fields = [NUMBER; 8];
     let mut labels = [BYTE; 32];
-    let mut short = [BYTE; 104];
-    let mut output = [BYTE; 105];
     show_one(
         out,
         b"rows of the text:",
@@ -232,35 +275,7 @@ fn not_lawful<W: Write>(out: &mut W) -> io::Result<()> {
         &mut fields,
         &mut labels,
     )?;
-    registers[1] = 33;
-    show_listed(
-        out,
-        b"width 33:",
-        &registers,
-        &paths,
-        &fields,
-        &labels,
-        &mut output,
-    )?;
-    show_listed(
-        out,
-        b"width 33, output short:",
-        &registers,
-        &paths,
-        &fields,
-        &labels,
-        &mut short,
-    )?;
-    registers[1] = 32;
-    show_listed(
-        out,
-        b"width 32 again:",
-        &registers,
-        &paths,
-        &fields,
-        &labels,
-        &mut output,
-    )
+    show_widths(out, &mut registers, &paths, &fields, &labels)
 }
 
 // A count across two parts that clears when it is read: no text gives it (17), but its rows are lawful and have a listing.
