@@ -1,8 +1,8 @@
 #!/usr/bin/env python3
-"""How long an access takes: makes packs for the program `access_cases`, runs target/bin/access_cases on each, and prints a table.
+"""How long an access takes: makes packs for the program `access_cases`, runs crates/access_cases/out/access_cases on each, and prints a table.
 docs/PERFORMANCE.md has one such table and what it says.
 
-    rt check access_cases
+    (cd crates/access_cases && rt run < stdin > out/written)
     python3 tests/measure_access.py
 
 A pack is one map, a reset, and so many accesses; for each the program makes the access and asks whether it may be sent again. The time is
@@ -13,7 +13,7 @@ import resource
 import struct
 import subprocess
 
-PROGRAM = pathlib.Path(__file__).resolve().parent.parent / "target" / "bin" / "access_cases"
+PROGRAM = pathlib.Path(__file__).resolve().parent.parent / "crates" / "access_cases" / "out" / "access_cases"
 RUNS = 5
 RESET, READ, WRITE = range(3)
 

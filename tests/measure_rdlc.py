@@ -1,8 +1,8 @@
 #!/usr/bin/env python3
-"""How long the program `rdlc` takes, and how much stack it needs: makes texts, runs target/bin/rdlc on each, and prints a table.
+"""How long the program `rdlc` takes, and how much stack it needs: makes texts, runs crates/rdlc/out/rdlc on each, and prints a table.
 docs/PERFORMANCE.md has one such table and what it says.
 
-    rt check rdlc
+    (cd crates/rdlc && rt run < stdin > out/written)
     python3 tests/measure_rdlc.py
 
 The time is the processor's, user and system, of the whole program; the shortest of nine runs counts. The stack is the smallest limit
@@ -15,7 +15,7 @@ import sys
 
 import measure_rules
 
-PROGRAM = pathlib.Path(__file__).resolve().parent.parent / "target" / "bin" / "rdlc"
+PROGRAM = pathlib.Path(__file__).resolve().parent.parent / "crates" / "rdlc" / "out" / "rdlc"
 ROOM = 65535
 RUNS = 9
 

@@ -1,8 +1,8 @@
 #!/usr/bin/env python3
-"""How many accesses a second the program `replay` plays: makes maps and logs, runs target/bin/replay on each, and prints a table.
+"""How many accesses a second the program `replay` plays: makes maps and logs, runs crates/replay/out/replay on each, and prints a table.
 docs/PERFORMANCE.md has one such table and what it says.
 
-    rt check replay
+    (cd crates/replay && rt run -- data/post.rdl data/night.log)
     python3 tests/measure_replay.py
 
 A map has so many registers of four fields each; its log reads and writes them in turns, one here and one there, and each access is
@@ -15,7 +15,7 @@ import resource
 import subprocess
 import tempfile
 
-PROGRAM = pathlib.Path(__file__).resolve().parent.parent / "target" / "bin" / "replay"
+PROGRAM = pathlib.Path(__file__).resolve().parent.parent / "crates" / "replay" / "out" / "replay"
 RUNS = 5
 STEP = 7
 SIZES = ((10, 20000), (100, 5000), (1000, 2000))

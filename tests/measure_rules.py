@@ -2,7 +2,7 @@
 """How long `rules::first_refusal` takes: makes texts of just below 65,536 bytes, runs the program of the crate `rule_cases` on packs of
 each, and prints a table. docs/PERFORMANCE.md has one such table and what it says.
 
-    rt check rule_cases
+    (cd crates/rule_cases && rt run < stdin > out/written)
     python3 tests/measure_rules.py
 
 A pack is the same text over and over. Its time is the processor's, user and system; less that of the empty pack, it is divided by the
@@ -24,7 +24,7 @@ ROOM = 65535
 MOST_TEXTS = 50  # in a pack
 ENOUGH = 2.0  # seconds: a pack of slow texts has fewer
 RUNS = 5
-PROGRAM = pathlib.Path(__file__).resolve().parent.parent / "target" / "bin" / "rule_cases"
+PROGRAM = pathlib.Path(__file__).resolve().parent.parent / "crates" / "rule_cases" / "out" / "rule_cases"
 
 # --- names ---
 
@@ -242,7 +242,7 @@ def run(pack):
 
 def main():
     if not PROGRAM.exists():
-        sys.exit("target/bin/rule_cases is not there: rt check rule_cases")
+        sys.exit("crates/rule_cases/out/rule_cases is not there: rt run in crates/rule_cases builds it")
     chosen = sys.argv[1:]
     start, _ = run(b"")
     print(f"the empty pack: {1000 * start:.1f} ms")

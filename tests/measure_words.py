@@ -2,11 +2,11 @@
 """How long the word stage takes: makes texts of just below 65,536 bytes, runs the program of the crate `word_cases` on packs of each, and
 prints a table of times. docs/PERFORMANCE.md has one such table and what it says.
 
-    rt check word_cases
+    (cd crates/word_cases && rt run < stdin > out/written)
     python3 tests/measure_words.py [PROGRAM ...]
 
 Programs as arguments, say one built before a change, one built after it and a copy of the first as a control, are run in turns, in random
-order, on the same packs; the ratios are to the first. Without arguments it is target/bin/word_cases.
+order, on the same packs; the ratios are to the first. Without arguments it is crates/word_cases/out/word_cases.
 A pack is one text 100 times. The program reads the words of each text twice, once to count them and once for the first refusal. The time is
 the processor's, user and system; less that of a pack of as many texts that end behind the words that are shown, it is divided by the number
 of readings. Reading the text from standard input stays in it. The shortest of 40 runs counts.
@@ -25,7 +25,7 @@ from word_cases import KEPT, KEYWORDS, SHOWN_TOKENS, all_tokens
 TEXTS_IN_PACK = 100
 READINGS = 2
 RUNS = 40
-PROGRAM = pathlib.Path(__file__).resolve().parent.parent / "target" / "bin" / "word_cases"
+PROGRAM = pathlib.Path(__file__).resolve().parent.parent / "crates" / "word_cases" / "out" / "word_cases"
 
 
 def words(source):

@@ -7,7 +7,7 @@
 
 It is written from the sentences on the program, by an author who had read the definitions of the crate `log_lines`, and goes another way:
 the log is split into lines, a line is matched whole, and of one that is none it looks for the longest beginning that some line has, by
-trying ends on it. The model is the second one, tests/access_cases.py. The rows are those of the listing that target/bin/rdlc writes, so
+trying ends on it. The model is the second one, tests/access_cases.py. The rows are those of the listing that crates/rdlc/out/rdlc writes, so
 the compiler is not judged here, and a map whose listing is longer than 65,536 bytes is not played. What the program says on standard
 error counts as a part of its answer, and so does a status that is not 0. A log that the two answer differently is made smaller as long
 as they do, and shown.
@@ -24,8 +24,8 @@ from access_cases import WIDTHS, Field, Post, Register, ones, pack_cases
 from kept_answers import REQUEST_1, REQUEST_2, SPANS, amended
 
 TESTS = pathlib.Path(__file__).resolve().parent
-RDLC = TESTS.parent / "target" / "bin" / "rdlc"
-REPLAY = TESTS.parent / "target" / "bin" / "replay"
+RDLC = TESTS.parent / "crates" / "rdlc" / "out" / "rdlc"
+REPLAY = TESTS.parent / "crates" / "replay" / "out" / "replay"
 TEXTS = TESTS.parent / "crates" / "replay_cases" / "data" / "replay.pack"
 TIMEOUT = 60
 

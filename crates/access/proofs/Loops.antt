@@ -72,7 +72,7 @@ module _ (w : ℕ) (registers fields : List ℕ) (i : ℕ) (r : LawfulRows w reg
 
   module _ {row : RegisterRow} (p : row ≡ register_row registers i) where
     pub row_runs : Runs w fields row
-    row_runs = rw p (facts.row-runs (rows_of r) r.rows w r.width i h)
+    row_runs = rw p (facts.row_runs (rows_of r) r.rows w r.width i h)
 
     pub row_few : row.first ≤ field_limit
     row_few = omega (arith, row_runs.few)

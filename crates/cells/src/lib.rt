@@ -188,6 +188,7 @@ pub fn values_of(component: Component) -> Values
     }
 }
 
+#[tactic(auto, unfolding(crate::specs::Cells::values_in))]
 fn values_at(cells: &[u64], row: usize) -> Values
     requires { row < definition_limit }
     ensures { result ≡ values_in cells.now row }
@@ -252,6 +253,7 @@ pub fn put_row(cells: &mut [u64], number: usize, row: Row)
 }
 
 // A cell that holds an instance: the place of its name, its type's row, and the instances below it in the tree of its body's names.
+#[tactic(auto, unfolding(crate::specs::Cells::entry_of))]
 pub fn entry_of(place: usize, row: usize, left: usize, right: usize) -> u64
     requires { (place < entry_places) × (row < definition_limit) × (left < link_bound) × (right < link_bound) }
     ensures { result ≡ entry_of place row left right }
@@ -260,24 +262,28 @@ pub fn entry_of(place: usize, row: usize, left: usize, right: usize) -> u64
         + ENTRY_PLACES * (row as u64 + ENTRY_ROWS * (left as u64 + LINK_BOUND * right as u64))
 }
 
+#[tactic(auto, unfolding(crate::specs::Cells::place_in))]
 pub fn place_in(entry: u64) -> usize
     ensures { (result ≡ place_in entry) × (result < entry_places) }
 {
     (entry % ENTRY_PLACES) as usize
 }
 
+#[tactic(auto, unfolding(crate::specs::Cells::row_in))]
 pub fn row_in(entry: u64) -> usize
     ensures { (result ≡ row_in entry) × (result < definition_limit) }
 {
     (entry / ENTRY_PLACES % ENTRY_ROWS) as usize
 }
 
+#[tactic(auto, unfolding(crate::specs::Cells::left_in))]
 pub fn left_in(entry: u64) -> usize
     ensures { (result ≡ left_in entry) × (result < link_bound) }
 {
     (entry / ENTRY_LINKS % LINK_BOUND) as usize
 }
 
+#[tactic(auto, unfolding(crate::specs::Cells::right_in))]
 pub fn right_in(entry: u64) -> usize
     ensures { (result ≡ right_in entry) × (result < link_bound) }
 {

@@ -60,6 +60,7 @@ fn field_type(settings: Settings) -> FieldType
 }
 
 // A component of this kind, of the effective settings of its body.
+#[tactic(auto, unfolding(crate::specs::Components::component_of))]
 pub fn component_of(kind: Kind, settings: Settings) -> Component
     ensures { result ≡ component_of kind settings }
 {
@@ -115,6 +116,7 @@ fn own_reset(suffix: Suffix, inherited: Given) -> Given
 }
 
 // A field of a register, where `next` is the bit above the field before it.
+#[tactic(auto, unfolding(crate::specs::Fields::field_at))]
 pub fn field_at(next: BitPlace, instance: Instance, field: FieldType) -> FieldAt
     requires { (1 ≤ width_in instance.array) × (width_in instance.array ≤ width_limit) × (next.0 < sum_bound) }
     ensures { result ≡ field_at next instance field }

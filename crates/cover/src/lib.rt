@@ -39,6 +39,7 @@ pub fn is_narrow(field: FieldAt) -> bool
 }
 
 // A field's bits.
+#[tactic(auto, unfolding(crate::specs::Covers::has_bit))]
 fn bits_of(field: FieldAt) -> u64
     requires { is_narrow field ≡ true }
     ensures { result ≡ number 64 (has_bit field) }

@@ -150,6 +150,7 @@ module _ (t : List ℕ) where
   -- an operator at fault stands behind the first byte, before the cursor past the expression
   pub faulty_lies : {at n q : ℕ} {e : Expr} → WordsSpell t at e n → Faulty e q → ((evaluated e).place < q) × (q < n)
   unfolding evaluated
+  faulty_lies {q = q} (spelt_literal {at = at} {v = v} _) x6 = elim x6 [ ]
   faulty_lies (spelt_inside {at = at} {n = n} e s f) (faulty_inside h) =
       let l = part_lies at e (λ z. let y : ◌≡◌ {A = ℕ} 0 1 = cc in omega arith) in
       let q = part_past t n f (λ z. let y : ◌≡◌ {A = ℕ} 0 1 = cc in omega arith) in
@@ -173,6 +174,7 @@ module _ (t : List ℕ) where
   -- "of several the smallest place answers"
   pub refused_smallest : {at n q : ℕ} {e : Expr} → WordsSpell t at e n → {p : ℕ} → (evaluated e).refusal ≡ AtOperator p → Faulty e q → p ≤ q
   unfolding evaluated
+  refused_smallest {q = q} (spelt_literal {at = at} {v = v} _) {p = p} h k = elim k [ ]
   refused_smallest (spelt_inside e s f) h (faulty_inside k) = refused_smallest s h k
   refused_smallest (spelt_apply {m = m} {o = o} {l = l} {r = r} s e u) h k =
       by (rw h at (why o (token_at t m).start (evaluated l) (evaluated r))) k

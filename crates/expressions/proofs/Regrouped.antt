@@ -201,9 +201,9 @@ module _ (t : List ℕ) where
   unfolding extend
   extend_spelt (literal v p) s x h q y = apply_spelt (literal v p) s x h q y
   extend_spelt (inside p e) s x h q y = apply_spelt (inside p e) s x h q y
-  extend_spelt {at} {m} {n} (apply o p l r) s (spelt_apply x f z) h q y =
+  extend_spelt {at = at} {m = m} {n = n} (apply o p l r) s (spelt_apply {m = m'} x f z) h q y =
       extended (λ (e : Expr). WordsSpell t at e n) o p l r s
-      (λ _. spelt_apply x f (extend_spelt r s z h q y))
+      (λ _. spelt_apply x f (extend_spelt {at = (token_at t m').end} r s z h q y))
       (λ _. apply_spelt (apply o p l r) s (spelt_apply x f z) h q y)
 
   built_spelt : {at m n : ℕ} (e : Expr) (ss : List Application) → WordsSpell t at e m → SpeltSteps m ss n → WordsSpell t at (built e ss) n

@@ -26,6 +26,7 @@ pub fn bytes_of(text: &[u8], start: usize, end: usize) -> &[u8]
     &text[start..end]
 }
 
+#[tactic(auto, unfolding(crate::specs::Names::same_name))]
 pub fn same_name(text: &[u8], a: Name, b: Name) -> bool
     ensures { result ≡ same_name text.now a b }
 {

@@ -12,7 +12,7 @@ use Rattle.chars.specs.Run.{every}
 use Rattle.chars.specs.declared.Radix.{Radix}
 use Rattle.chars.specs.declared.Radix.TheVariants.{Decimal, Hex}
 use Rattle.chars.proofs.Laws.{either, and_both}
-use Rattle.numbers.specs.Number.{digit_value, next_value, value_from, value, fitting, base_of, plain_digits}
+use Rattle.numbers.specs.Number.{digit_value, next_value, value_from, fitting, base_of, plain_digits}
 use Rattle.numbers.specs.declared.Numeral.{Numeral}
 use Rattle.numbers.specs.declared.Numeral.TheVariants as numeral
 use Rattle.model.specs.declared.Access.{Access}

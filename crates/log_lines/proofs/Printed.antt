@@ -50,12 +50,12 @@ module _ (d : ℕ) where
   printed_letter : 10 ≤ d → d < 16 → Printed Hex d
   unfolding is_hex_digit
   printed_letter l h =
-      let e : 97 + (d - 10) ≡ digit_byte d = words.digit-letter d l in
+      let e : 97 + (d - 10) ≡ digit_byte d = words.digit_letter d l in
       let n : is_within 48 57 (digit_byte d) ≡ false = within_above 48 57 (digit_byte d) (omega arith) in
       let w : is_within 97 102 (digit_byte d) ≡ true = within_yes 97 102 (digit_byte d) (omega arith) (omega arith) in
       record {
         digit = rw (n, w);
-        value = sym (numbers.digit-lower (digit_byte d) refl n {w = d - 10} refl w (omega arith)) ∙ (omega arith);
+        value = sym (numbers.digit_lower (digit_byte d) refl n {w = d - 10} refl w (omega arith)) ∙ (omega arith);
         plain = λ f. omega arith;
       }
 
@@ -91,7 +91,7 @@ value_last base n (a ∷ s) b = value_last base (next_value base n a) s b
 
 module _ (r : Radix) (h : 1 ≤ base_of r) (each : (d : ℕ) → d < base_of r → Printed r d) where
   digit_next : (m d : ℕ) → d < base_of r → next_value (base_of r) m (digit_byte d) ≡ m * base_of r + d
-  digit_next m d l = let p : Printed r d = each d l in sym (numbers.next-digit (base_of r) m (digit_byte d) p.plain (sym p.value))
+  digit_next m d l = let p : Printed r d = each d l in sym (numbers.next_digit (base_of r) m (digit_byte d) p.plain (sym p.value))
 
   one_digit : (n : ℕ) → n < base_of r → Spells r n (digit_byte (n % base_of r) ∷ [])
   unfolding plain_digits every value_from

@@ -20,14 +20,14 @@ use Rattle.log_lines.specs.declared.Stage.TheVariants.{Start, Number, Zero, Pref
 use Rattle.log_lines.specs.declared.Call.{Call}
 use Rattle.log_lines.specs.declared.Line.{Line}
 use Rattle.log_lines.specs.declared.LogLine.TheVariants.{Made}
-use Rattle.log_lines.specs.Log.{counted, calling, letter_at, is_last, onward, begun, with_letter, with_value, with_whole, with_digit, behind_number, with_next, with_first, behind_zero, with_first_hex, with_bytes, access_of, ended_number, ended, line_of}
+use Rattle.log_lines.specs.Log.{counted, calling, letter_at, is_last, onward, begun, with_letter, with_value, with_whole, with_digit, behind_number, with_next, with_first, behind_zero, with_first_hex, with_byte, with_bytes, access_of, ended_number, ended, line_of}
 use Rattle.log_lines.specs.Spelled.{Spelled, spelled_decimal, spelled_hex, spelled_upper, read_line, write_line}
 
 -- bytes behind bytes
 pub with_append : (l : Line) (xs ys : List ℕ) → with_bytes l (xs ++ ys) ≡ with_bytes (with_bytes l xs) ys
 unfolding with_bytes
 with_append l [] ys = refl
-with_append l (b ∷ xs) ys = with_append _ xs ys
+with_append l (b ∷ xs) ys = with_append (with_byte l b) xs ys
 
 abbrev pub line : Stage → ℕ → Call → Line
 line s k c = record { stage = s; column = k; call = c }

@@ -271,6 +271,7 @@ fn role_value(role: Role) -> bool
     }
 }
 
+#[tactic(auto, unfolding(crate::specs::Words::is_name))]
 fn is_name(word: Word) -> bool
     ensures { result ≡ is_name word }
 {
@@ -285,6 +286,7 @@ fn is_name(word: Word) -> bool
     }
 }
 
+#[tactic(auto, unfolding(crate::specs::Words::kind_of))]
 fn kind_of(word: Word) -> KindLookup
     ensures { result ≡ kind_of word }
 {
@@ -299,6 +301,7 @@ fn kind_of(word: Word) -> KindLookup
     }
 }
 
+#[tactic(auto, unfolding(crate::specs::Words::is_kind))]
 pub fn is_kind(word: Word) -> bool
     ensures { result ≡ is_kind word }
 {
@@ -308,6 +311,7 @@ pub fn is_kind(word: Word) -> bool
     }
 }
 
+#[tactic(auto, unfolding(crate::specs::Words::is_default))]
 fn is_default(word: Word) -> bool
     ensures { result ≡ is_default word }
 {
@@ -322,6 +326,7 @@ fn is_default(word: Word) -> bool
     }
 }
 
+#[tactic(auto, unfolding(crate::specs::Words::is_property))]
 fn is_property(word: Word) -> bool
     ensures { result ≡ is_property word }
 {
@@ -372,6 +377,7 @@ fn mark_number(mark: Mark) -> u8
     }
 }
 
+#[tactic(auto, unfolding(crate::specs::Words::is_mark))]
 pub fn is_mark(word: Word, mark: Mark) -> bool
     ensures { result ≡ is_mark mark word }
 {
@@ -386,6 +392,7 @@ pub fn is_mark(word: Word, mark: Mark) -> bool
     }
 }
 
+#[tactic(auto, unfolding(crate::specs::Words::is_end))]
 pub fn is_end(word: Word) -> bool
     ensures { result ≡ is_end word }
 {

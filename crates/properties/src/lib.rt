@@ -96,6 +96,7 @@ fn replace_in(settings: Settings, at: Slot, slot: Slot, number: u64) -> Given
 }
 
 // The settings with one property set.
+#[tactic(auto, unfolding(crate::specs::Assigned::assign))]
 fn assign_slot(s: Settings, slot: Slot, n: u64) -> Settings
     ensures { result ≡ assign s slot n }
 {
@@ -141,6 +142,7 @@ fn nearer_in(near: Settings, far: Settings, slot: Slot) -> Given
 }
 
 // The settings of a body over those from outside.
+#[tactic(auto, unfolding(crate::specs::Assigned::nearest))]
 pub fn nearest_of(near: Settings, far: Settings) -> Settings
     ensures { result ≡ nearest near far }
 {
@@ -207,6 +209,7 @@ fn settings_of(defaulted: bool, assigned: Assigned) -> Settings
 }
 
 // What is set after one more setting, or default.
+#[tactic(auto, unfolding(crate::specs::Assigned::assigned))]
 fn assign_to(defaulted: bool, before: Assigned, slot: Slot, number: u64) -> Assigned
     ensures { result ≡ assigned defaulted before slot number }
 {
@@ -220,6 +223,7 @@ fn assign_to(defaulted: bool, before: Assigned, slot: Slot, number: u64) -> Assi
     Assigned { own, defaults }
 }
 
+#[tactic(auto, unfolding(crate::specs::Properties::judge_value))]
 fn judge_value(
     before: Assigned,
     statement: Assignment,
@@ -255,6 +259,7 @@ fn judge_settled(
     }
 }
 
+#[tactic(auto, unfolding(crate::specs::Properties::judge_known, basics::specs::Judged::unless))]
 fn judge_known(
     kind: Kind,
     before: Assigned,
@@ -282,6 +287,7 @@ fn judge_known(
 }
 
 // A property statement in a body of a component of this kind, with what is set before it.
+#[tactic(auto, unfolding(crate::specs::Properties::judge_property, crate::specs::Properties::judge_known))]
 pub fn judge_property(
     text: &[u8],
     kind: Kind,

@@ -209,6 +209,7 @@ fn is_defaultable(group: Group, kind: Kind) -> bool
 }
 
 // Whether a property, or its default, may stand in a body of a component.
+#[tactic(auto, unfolding(crate::specs::Settings::is_allowed))]
 pub fn is_allowed(defaulted: bool, property: Property, kind: Kind) -> bool
     ensures { result ≡ is_allowed defaulted property kind }
 {
@@ -359,6 +360,7 @@ fn text_setting(term: Term) -> Setting
     }
 }
 
+#[tactic(auto, unfolding(crate::specs::Settings::setting_as))]
 fn setting_as(wanted: Wanted, term: Term) -> Setting
     ensures { result ≡ setting_as wanted term }
 {
@@ -417,6 +419,7 @@ fn wanted_refusal(wanted: Wanted, refusal: Refusal) -> Refusal
 }
 
 // Which operator refuses a value, where the property wants a number.
+#[tactic(auto, unfolding(crate::specs::Settings::refusal_in))]
 pub fn refusal_in(property: Property, value: Value) -> Refusal
     ensures { result ≡ refusal_in property value }
 {

@@ -28,6 +28,7 @@ const STEP_INDEX_BOUND: u64 = 4194304;
 const INDICES_FROM: u64 = PLACE_BOUND * PLACE_BOUND;
 
 // The head of a register.
+#[tactic(auto, unfolding(crate::specs::Log::head_of))]
 pub fn head_of(address: u64, row: usize, depth: usize) -> u64
     requires { (address < address_bound) × (row < definition_limit) × (depth < depth_bound) }
     ensures { result ≡ head_of address row depth }
@@ -35,18 +36,21 @@ pub fn head_of(address: u64, row: usize, depth: usize) -> u64
     address + ADDRESS_BOUND * (row as u64 + ROW_BOUND * depth as u64)
 }
 
+#[tactic(auto, unfolding(crate::specs::Log::head_address))]
 pub fn head_address(head: u64) -> u64
     ensures { result ≡ head_address head }
 {
     head % ADDRESS_BOUND
 }
 
+#[tactic(auto, unfolding(crate::specs::Log::head_row))]
 pub fn head_row(head: u64) -> usize
     ensures { (result ≡ head_row head) × (result < definition_limit) }
 {
     (head / ADDRESS_BOUND % ROW_BOUND) as usize
 }
 
+#[tactic(auto, unfolding(crate::specs::Log::head_depth))]
 pub fn head_depth(head: u64) -> usize
     ensures { (result ≡ head_depth head) × (result < depth_bound) }
 {
@@ -55,6 +59,7 @@ pub fn head_depth(head: u64) -> usize
 
 // A step of a path: its name's start and end, and its index and one more, or 0. A number that is too large for its bits is cut; none of
 // an accepted text is.
+#[tactic(auto, unfolding(crate::specs::Log::step_of))]
 pub fn step_of(start: usize, end: usize, index: u64) -> u64
     ensures { result ≡ step_of start end index }
 {
@@ -62,18 +67,21 @@ pub fn step_of(start: usize, end: usize, index: u64) -> u64
         + PLACE_BOUND * (end as u64 % PLACE_BOUND + PLACE_BOUND * (index % STEP_INDEX_BOUND))
 }
 
+#[tactic(auto, unfolding(crate::specs::Log::step_start))]
 pub fn step_start(step: u64) -> usize
     ensures { (result ≡ step_start step) × (result < place_bound) }
 {
     (step % PLACE_BOUND) as usize
 }
 
+#[tactic(auto, unfolding(crate::specs::Log::step_end))]
 pub fn step_end(step: u64) -> usize
     ensures { (result ≡ step_end step) × (result < place_bound) }
 {
     (step / PLACE_BOUND % PLACE_BOUND) as usize
 }
 
+#[tactic(auto, unfolding(crate::specs::Log::step_index))]
 pub fn step_index(step: u64) -> u64
     ensures { result ≡ step_index step }
 {

@@ -48,7 +48,7 @@ module _ {t : List ℕ} {at : ℕ} (n : ℕ) where
 zeros_path : {t : List ℕ} {at : ℕ} (depth k n : ℕ) → depth < k → Stands t at (padded (n * name_width) []) → are_names t depth at k n ≡ true
 unfolding are_names is_path_cell
 zeros_path depth k zero h s = refl
-zeros_path {t} {at = at} depth k (suc n) h s = rw (lt-leb k depth h, zeros_stand name_width (zero_first n s)) (zeros_path depth (suc k) n (omega arith) (zero_others n s))
+zeros_path {t} {at = at} depth k (suc n) h s = rw (lt-leb k depth h, zeros_stand name_width (zero_first n s)) (zeros_path {at = at + name_width} depth (suc k) n (omega arith) (zero_others n s))
 
 pub names_stand : {t : List ℕ} {at : ℕ} (depth k n : ℕ) {path : List Step} → All SoundStep path → length path ≤ n → depth + 1 ≡ k + length path → Stands t at (padded (n * name_width) (name_cells path))
     → are_names t depth at k n ≡ true
@@ -57,7 +57,7 @@ names_stand depth k n all_none h e s = zeros_path depth k n (omega (arith, e)) s
 names_stand depth k zero (all_more x xs) h e s = absurd (omega (arith, h))
 names_stand {t} {at = at} depth k (suc n) (all_more {x = x} {xs = path} p ps) h e s =
     rw (le-leb k depth (omega (arith, e)), name_stands p.name (name_first n x.name (name_cells path) s))
-    (names_stand depth (suc k) n ps (omega arith) (omega (arith, e)) (name_others n x.name (name_cells path) s))
+    (names_stand {at = at + name_width} depth (suc k) n ps (omega arith) (omega (arith, e)) (name_others n x.name (name_cells path) s))
 
 -- the indices
 index_low : (g : Given) → SoundIndex g → index_code g ≤ array_limit
@@ -92,5 +92,5 @@ steps_read (suc n) zero (all_more x xs) h l s z = absurd (omega (arith, l))
 steps_read {t} {u} {at} {place} (suc n) (suc m) (all_more {x = x} {xs = path} p ps) h l s z =
     let a : name_at u place ≡ x.name = name_read_lem p.name (name_first m x.name (name_cells path) z) in
     let b : index_from (cell_of t at) ≡ x.index = ap index_from (stands_head s) ∙ index_read x.index in
-    let c : steps_from t u (suc at) (place + name_width) (length path) ≡ path = steps_read n m ps (omega arith) (omega arith) (stands_tail s) (name_others m x.name (name_cells path) z) in
+    let c : steps_from t u (suc at) (place + name_width) (length path) ≡ path = steps_read {at = suc at} {place = place + name_width} n m ps (omega arith) (omega arith) (stands_tail s) (name_others m x.name (name_cells path) z) in
     λ i. record { name = a i; index = b i } ∷ c i

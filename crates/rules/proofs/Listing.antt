@@ -52,7 +52,7 @@ module _ (t : List ℕ) where
   -- an instance of a list takes two bytes at least
   pub record Read (at : ℕ) (l : ListItem) (n : ℕ) : Type 0 where
     pub behind : ℕ
-    pub instance_read_lem : instance_at t at ≡ ok l.instance behind
+    pub reads_instance : instance_at t at ≡ ok l.instance behind
     pub past : at + 2 ≤ n
     pub inside : n ≤ length t
 
@@ -62,7 +62,7 @@ module _ (t : List ℕ) where
       let s = then_steps (instance_at t at) _ q in
       let p = parted s.piece s.next s.second in
       let e = ends_of (instance_ends t at) s.first in
-      record { behind = s.next; instance_read_lem = s.first ∙ ap (λ (x : Instance). ok x s.next) (sym p.0); past = omega (arith, e, p.1); inside = p.2 }
+      record { behind = s.next; reads_instance = s.first ∙ ap (λ (x : Instance). ok x s.next) (sym p.0); past = omega (arith, e, p.1); inside = p.2 }
 
 -- what is left of a list, with the instances that the body holds by then
 pub record Rest (text t : List ℕ) (scope : Scope) (row : ℕ) (kind : Kind) (at held n : ℕ) (table : List Definition) (answer : Judged (List Child)) : Type 0 where
@@ -122,7 +122,7 @@ module _ (text t₀ : List ℕ) (scope : Scope) (row : ℕ) (kind : Kind) (start
       item_falls = omega (arith, item_read.past, item_read.inside)
 
       pub item_low : length text ≤ text_limit → l.instance.name.start < entry_places
-      item_low p = let b = begins_inside text at (instance_named text at item_read.instance-read) in omega (arith, p, b)
+      item_low p = let b = begins_inside text at (instance_named text at item_read.reads_instance) in omega (arith, p, b)
 
       -- the list starts with this instance
       record Head (is : List Instance) (n : ℕ) : Type 0 where
@@ -161,7 +161,7 @@ module _ (text t₀ : List ℕ) (scope : Scope) (row : ℕ) (kind : Kind) (start
         step is n table cs q typed b =
             let w = g.each is n table cs q typed b in
             let h = head w.reads in
-            by h (rw h.whole at w.same) (a.each at item_read.behind table w.children item_read.instance-read typed w.listed)
+            by h (rw h.whole at w.same) (a.each at item_read.behind table w.children item_read.reads_instance typed w.listed)
           where
             by : {is' : List Instance} {ds : List Child} {r : Fault} (h : Head is' n) → judge_instances text scope.enclosing kind row (l.instance ∷ h.others) ds ≡ judge_instances text scope.enclosing kind row is cs
                 → Added text u scope row kind held l.instance table ds r → Next u n table (judge_instances text scope.enclosing kind row is cs) r

@@ -9,6 +9,7 @@ use expressions::{Number, Refusal};
 use parts::{Array, Instance, Kind, Suffix, SuffixKind};
 
 // 9 where a number is out of its range.
+#[tactic(auto, unfolding(crate::specs::Suffixes::ranged))]
 fn ranged_at(fits: bool, place: usize) -> Fault
     ensures { result ≡ ranged fits place }
 {
@@ -19,6 +20,7 @@ fn ranged_at(fits: bool, place: usize) -> Fault
 }
 
 // The number of `[n]`: a field's width, or the length of an array.
+#[tactic(auto, unfolding(crate::specs::Suffixes::is_size))]
 fn is_size(field: bool, n: u64) -> bool
     ensures { result ≡ is_size field n }
 {
@@ -31,6 +33,7 @@ fn is_size(field: bool, n: u64) -> bool
     n <= basics::ARRAY_LIMIT
 }
 
+#[tactic(auto, unfolding(crate::specs::Suffixes::is_range))]
 fn is_range(left: u64, right: u64) -> bool
     ensures { result ≡ is_range left right }
 {
@@ -41,6 +44,7 @@ fn is_range(left: u64, right: u64) -> bool
 }
 
 // No range over a refused part is judged.
+#[tactic(auto, unfolding(crate::specs::Suffixes::settled_fault))]
 fn settle(refusal: Refusal, rest: Fault) -> Fault
     ensures { result ≡ settled_fault refusal rest }
 {
@@ -81,6 +85,7 @@ fn array_fault(field: bool, array: Array) -> Fault
     }
 }
 
+#[tactic(auto, unfolding(crate::specs::Suffixes::suffix_range))]
 fn is_stride(n: u64) -> bool
     ensures { result ≡ suffix_range SuffixKind.Stride n }
 {
@@ -90,6 +95,7 @@ fn is_stride(n: u64) -> bool
     n <= basics::HIGHEST_ADDRESS
 }
 
+#[tactic(auto, unfolding(crate::specs::Suffixes::suffix_range))]
 fn suffix_range(kind: SuffixKind, n: u64) -> bool
     ensures { result ≡ suffix_range kind n }
 {
@@ -143,6 +149,7 @@ fn is_given(suffix: Suffix) -> bool
 }
 
 // Whether a suffix may not stand behind an instance of a field, or of another component.
+#[tactic(auto, unfolding(crate::specs::Suffixes::is_barred))]
 fn is_barred(kind: SuffixKind, field: bool, instance: Instance) -> bool
     ensures { result ≡ is_barred kind field instance }
 {
@@ -164,6 +171,7 @@ fn fault_of(kind: SuffixKind, field: bool, instance: Instance, suffix: Suffix) -
 }
 
 // The first fault of an instance's suffixes, for an instance of a component of this kind.
+#[tactic(auto, unfolding(crate::specs::Suffixes::instance_fault))]
 pub fn instance_fault(kind: Kind, instance: Instance) -> Fault
     ensures { result ≡ instance_fault kind instance }
 {

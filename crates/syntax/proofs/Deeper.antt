@@ -65,7 +65,7 @@ module _ (t : List ℕ) where
         tree = d.tree;
         behind = d.behind;
         list = d.list;
-        reads_header = d.reads-header;
+        reads_header = d.reads_header;
         reads_body = w d.header d.inside d.tree d.behind d.reads_body;
         reads_tail = d.reads_tail;
         made = d.made;

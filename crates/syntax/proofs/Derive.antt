@@ -152,4 +152,4 @@ module _ (t : List ℕ) where
   -- and a definition with these parts is read
   pub parts_definition : (body : Header → ℕ → Parsed Body) (at : ℕ) {e : Elem} {n : ℕ} → Defined body at e n → definition_with body t at ≡ ok e n
   unfolding definition_with and_then mapped
-  parts_definition body at d = rw (d.reads-header, d.reads_body, d.reads_tail, d.made)
+  parts_definition body at d = rw (d.reads_header, d.reads_body, d.reads_tail, d.made)

@@ -24,8 +24,8 @@ write_map_spec =
     let at-shared-slice-known = at-slice-known.before.before.before.before in
     let at_start_lem = at-shared-slice-known.before in
     let k = chart_of _ _ _ at_start_lem.requires.0 at_start_lem.requires.1 in (
-      room_refuses _ _ k.entries k.counted k.fine-map at-is-room.is-room.ensures at-if1.if1.true c.refuse.ensures,
-      room_kept _ _ k.entries k.counted k.fine-map at-is-room.is-room.ensures at-if1.if1.true,
+      room_refuses _ _ k.entries k.counted k.fine_map at-is-room.is-room.ensures at-if1.if1.true c.refuse.ensures,
+      room_kept _ _ k.entries k.counted k.fine_map at-is-room.is-room.ensures at-if1.if1.true,
     ))
     -- write-rows-requires
     (λ c κs.
@@ -53,6 +53,6 @@ write_map_spec =
     let at_start_lem = at-shared-slice-known.before in
     let k = chart_of _ _ _ at_start_lem.requires.0 at_start_lem.requires.1 in
     let rows = at-write-rows.write-rows.ensures in (
-      room_accepts _ _ k.entries k.counted k.fine-map at-is-room.is-room.ensures at-if1.if1.false,
-      tables_are rows.0 rows.1.0 rows.1.1.0 rows.1.1.1 ∙ room_written _ _ k.entries k.counted k.fine-map at-is-room.is-room.ensures at-if1.if1.false (map-tables _ _ _ at_start_lem.requires.0),
+      room_accepts _ _ k.entries k.counted k.fine_map at-is-room.is-room.ensures at-if1.if1.false,
+      tables_are rows.0 rows.1.0 rows.1.1.0 rows.1.1.1 ∙ room_written _ _ k.entries k.counted k.fine_map at-is-room.is-room.ensures at-if1.if1.false (map-tables _ _ _ at_start_lem.requires.0),
     )))

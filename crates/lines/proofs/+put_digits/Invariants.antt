@@ -1,0 +1,5 @@
+-- There are fewer digits left with each call.
+use Rattle.lines.proofs.+put_digits.Given as goal
+
+abbrev pub decreases-put_digits : goal.decreases-put_digits
+decreases-put_digits l = l.left

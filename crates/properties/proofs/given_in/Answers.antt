@@ -1,0 +1,35 @@
+-- Each of the 11 slots names its own setting.
+use Rattle.properties.proofs.given_in.Goals as goal
+
+pub returns-in-Sw : goal.returns-in-Sw
+returns-in-Sw c = rw c.in-Sw.is
+
+pub returns-in-Hw : goal.returns-in-Hw
+returns-in-Hw c = rw c.in-Hw.is
+
+pub returns-in-Reset : goal.returns-in-Reset
+returns-in-Reset c = rw c.in-Reset.is
+
+pub returns-in-Onread : goal.returns-in-Onread
+returns-in-Onread c = rw c.in-Onread.is
+
+pub returns-in-Onwrite : goal.returns-in-Onwrite
+returns-in-Onwrite c = rw c.in-Onwrite.is
+
+pub returns-in-Regwidth : goal.returns-in-Regwidth
+returns-in-Regwidth c = rw c.in-Regwidth.is
+
+pub returns-in-Accesswidth : goal.returns-in-Accesswidth
+returns-in-Accesswidth c = rw c.in-Accesswidth.is
+
+pub returns-in-Alignment : goal.returns-in-Alignment
+returns-in-Alignment c = rw c.in-Alignment.is
+
+pub returns-in-Addressing : goal.returns-in-Addressing
+returns-in-Addressing c = rw c.in-Addressing.is
+
+pub returns-in-Name : goal.returns-in-Name
+returns-in-Name c = rw c.in-Name.is
+
+pub returns-in-Desc : goal.returns-in-Desc
+returns-in-Desc c = rw c.in-Desc.is
