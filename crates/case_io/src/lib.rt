@@ -1,8 +1,10 @@
 // What the test programs share: reading the parts of a pack, each behind its little-endian u32 length, and writing their lines.
 #![tactic(auto)]
 
-ghost use Rattle.std.specs.Prelude.{◌≡◌, ◌<◌, IfOk};
+ghost use Rattle.std.specs.Prelude.{◌≡◌, ◌<◌, IfOk, OnOk, OnErr, ◌++◌, decimal};
 ghost use Rattle.std.specs.Counts.{IsPrefixLen};
+ghost use Rattle.std.specs.Io.KnownBytes.{Appends};
+ghost use Rattle.streams.specs.Filled.{KeepsRead, LosesFront};
 
 use lex::Verdict;
 use std::io;
@@ -28,12 +30,16 @@ pub struct InputPart {
     pub length: usize,
 }
 
-pub fn put<W: Write>(out: &mut W, bytes: &[u8]) -> io::Result<()> {
+pub fn put<W: Write>(out: &mut W, bytes: &[u8]) -> io::Result<()>
+    ensures { OnOk result (Appends (W.contents out.old) (W.contents out.new) bytes.now) }
+{
     out.write_all(bytes)
 }
 
 // A label, then a number.
-pub fn put_number<W: Write>(out: &mut W, label: &[u8], n: u64) -> io::Result<()> {
+pub fn put_number<W: Write>(out: &mut W, label: &[u8], n: u64) -> io::Result<()>
+    ensures { OnOk result (Appends (W.contents out.old) (W.contents out.new) (label.now ++ decimal n)) }
+{
     put(out, label)?;
     write!(out, "{n}")
 }
@@ -56,7 +62,9 @@ pub fn wide(b: u8) -> usize
     b as usize
 }
 
-pub fn read_length<R: Read>(input: &mut R) -> io::Result<Length> {
+pub fn read_length<R: Read>(input: &mut R) -> io::Result<Length>
+    ensures { LosesFront (R.remaining input.old) (R.remaining input.new) }
+{
     let mut bytes = [0u8; 4];
     if streams::fill(input, &mut bytes)? < 4 {
         return Ok(Length::Missing);
@@ -68,7 +76,8 @@ pub fn read_length<R: Read>(input: &mut R) -> io::Result<Length> {
 
 // Reads a part of a length, if the room holds it.
 fn read_bytes<R: Read>(input: &mut R, length: usize, room: &mut [u8]) -> io::Result<InputPart>
-    ensures { IfOk result (λ part. IsPrefixLen part.length room.new) }
+    ensures ok { IfOk result (λ part. IsPrefixLen part.length room.new) }
+    ensures err { OnErr result (KeepsRead (R.remaining input.old) (R.remaining input.new) room.new) }
 {
     if length > room.len() {
         return Ok(InputPart {
@@ -85,7 +94,8 @@ fn read_bytes<R: Read>(input: &mut R, length: usize, room: &mut [u8]) -> io::Res
 
 // Reads the part whose length was read before.
 pub fn read_part<R: Read>(input: &mut R, length: Length, room: &mut [u8]) -> io::Result<InputPart>
-    ensures { IfOk result (λ part. IsPrefixLen part.length room.new) }
+    ensures ok { IfOk result (λ part. IsPrefixLen part.length room.new) }
+    ensures err { OnErr result (KeepsRead (R.remaining input.old) (R.remaining input.new) room.new) }
 {
     match length {
         Length::Of(bytes) => read_bytes(input, bytes, room),
@@ -98,7 +108,8 @@ pub fn read_part<R: Read>(input: &mut R, length: Length, room: &mut [u8]) -> io:
 
 // Reads the next text of an input.
 pub fn read_text<R: Read>(input: &mut R, room: &mut [u8]) -> io::Result<InputPart>
-    ensures { IfOk result (λ part. IsPrefixLen part.length room.new) }
+    ensures ok { IfOk result (λ part. IsPrefixLen part.length room.new) }
+    ensures err { OnErr result (LosesFront (R.remaining input.old) (R.remaining input.new)) }
 {
     let length = read_length(input)?;
     read_part(input, length, room)
