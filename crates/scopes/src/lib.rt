@@ -89,6 +89,7 @@ fn is_smaller(body: Kind, kind: Kind) -> bool
     inner == 1
 }
 
+#[tactic(auto, unfolding(crate::specs::Places::may_define))]
 pub fn may_define(enclosing: Enclosing, kind: Kind) -> bool
     ensures { result ≡ may_define enclosing kind }
 {
@@ -109,6 +110,7 @@ fn is_addressed(kind: Kind) -> bool
     rank == 2
 }
 
+#[tactic(auto, unfolding(crate::specs::Places::may_hold))]
 fn holds_kind(body: Kind, kind: Kind) -> bool
     ensures { result ≡ may_hold (Enclosing.Inside body) kind }
 {
@@ -120,6 +122,7 @@ fn holds_kind(body: Kind, kind: Kind) -> bool
     }
 }
 
+#[tactic(auto, unfolding(crate::specs::Places::may_hold))]
 pub fn may_hold(enclosing: Enclosing, kind: Kind) -> bool
     ensures { result ≡ may_hold enclosing kind }
 {
