@@ -9,6 +9,8 @@ use case_io::{LONGEST_TEXT, Length, MOST_CASES};
 use compile::Compiled;
 use fields::Offset;
 use model::{Access, Answer};
+use std::io;
+use std::io::{Read, Write};
 
 // The rows that the tables hold: as many as a map may have; and a store with some numbers more.
 const REGISTERS: usize = 14336;
@@ -52,9 +54,9 @@ fn at_most(n: usize, most: usize) -> usize
     if n < most { n } else { most }
 }
 
-fn put_line(label: &[u8], n: u64) {
-    case_io::put_number(label, n);
-    case_io::put(b"\n");
+fn put_line<W: Write>(out: &mut W, label: &[u8], n: u64) -> io::Result<()> {
+    case_io::put_number(out, label, n)?;
+    case_io::put(out, b"\n")
 }
 
 // Number `index` of a command's bytes.
@@ -70,35 +72,35 @@ fn number_at(bytes: &[u8; 32], index: usize) -> u64
     value
 }
 
-fn read_command() -> Command {
+fn read_command<R: Read>(input: &mut R) -> io::Result<Command> {
     let mut bytes = [0u8; 32];
-    io::read_full(libc::STDIN_FILENO, &mut bytes);
+    streams::fill(input, &mut bytes)?;
     let code = number_at(&bytes, 0);
     let a = number_at(&bytes, 1);
     let b = number_at(&bytes, 2);
     let c = number_at(&bytes, 3);
-    Command { code, a, b, c }
+    Ok(Command { code, a, b, c })
 }
 
-fn put_answer(answer: Answer) {
+fn put_answer<W: Write>(out: &mut W, answer: Answer) -> io::Result<()> {
     match answer {
-        Answer::Refused(number) => case_io::put_number(b"refused=", number as u64),
-        Answer::Word(word) => case_io::put_number(b"word=", word),
+        Answer::Refused(number) => case_io::put_number(out, b"refused=", number as u64),
+        Answer::Word(word) => case_io::put_number(out, b"word=", word),
     }
 }
 
-fn put_retry(retry: Retried) {
+fn put_retry<W: Write>(out: &mut W, retry: Retried) -> io::Result<()> {
     match retry {
-        Retried::Refused(number) => put_line(b" retry refused=", number as u64),
-        Retried::Safe => case_io::put(b" retry=safe\n"),
-        Retried::Unsafe => case_io::put(b" retry=unsafe\n"),
+        Retried::Refused(number) => put_line(out, b" retry refused=", number as u64),
+        Retried::Safe => case_io::put(out, b" retry=safe\n"),
+        Retried::Unsafe => case_io::put(out, b" retry=unsafe\n"),
     }
 }
 
-fn put_restored(restored: Restored) {
+fn put_restored<W: Write>(out: &mut W, restored: Restored) -> io::Result<()> {
     match restored {
-        Restored::Refused(number) => put_line(b"reset refused=", number as u64),
-        Restored::Written(count) => put_line(b"reset=", count as u64),
+        Restored::Refused(number) => put_line(out, b"reset refused=", number as u64),
+        Restored::Written(count) => put_line(out, b"reset=", count as u64),
     }
 }
 
@@ -139,42 +141,42 @@ fn make_access(
 }
 
 // Makes an access, and asks whether it may be sent again.
-fn run_access(
+fn run_access<W: Write>(
+    out: &mut W,
     registers: &[u64],
     paths: &[u8],
     fields: &[u64],
     labels: &[u8],
     store: &mut [u64],
     command: Command,
-) {
+) -> io::Result<()> {
     let retried = access::retry(registers, paths, fields, labels, access_of(command));
-    put_answer(make_access(registers, paths, fields, labels, store, command));
-    put_retry(retried);
+    let answer = make_access(registers, paths, fields, labels, store, command);
+    put_answer(out, answer)?;
+    put_retry(out, retried)
 }
 
-fn show_store(store: &[u64]) {
-    let mut k = 0;
-    while k < store.len() {
-        case_io::put_number(b" ", store[k]);
-        k += 1;
+fn show_store<W: Write>(out: &mut W, store: &[u64]) -> io::Result<()> {
+    for number in store {
+        case_io::put_number(out, b" ", *number)?;
     }
-    case_io::put(b"\n");
+    case_io::put(out, b"\n")
 }
 
 // Commands on the lent parts: 0 is a reset, 1 a read, 2 a write, 5 shows the store.
-fn run_lent(
+fn run_lent<W: Write>(
+    out: &mut W,
     registers: &[u64],
     paths: &[u8],
     fields: &[u64],
     labels: &[u8],
     store: &mut [u64],
     command: Command,
-) {
-    let code = command.code;
-    match code {
-        0 => put_restored(access::reset(registers, paths, fields, labels, store)),
-        1 | 2 => run_access(registers, paths, fields, labels, store, command),
-        _ => show_store(store),
+) -> io::Result<()> {
+    match command.code {
+        0 => put_restored(out, access::reset(registers, paths, fields, labels, store)),
+        1 | 2 => run_access(out, registers, paths, fields, labels, store, command),
+        _ => show_store(out, store),
     }
 }
 
@@ -227,7 +229,8 @@ fn put_number(
 }
 
 // Runs a command on the parts of the tables and of the store that are lent.
-fn run_on_parts(
+fn run_on_parts<W: Write>(
+    out: &mut W,
     registers: &[u64],
     paths: &[u8],
     fields: &[u64],
@@ -235,24 +238,26 @@ fn run_on_parts(
     store: &mut [u64],
     lengths: Lengths,
     command: Command,
-) {
+) -> io::Result<()> {
     let registers_end = at_most(lengths.registers, registers.len());
     let paths_end = at_most(lengths.paths, paths.len());
     let fields_end = at_most(lengths.fields, fields.len());
     let labels_end = at_most(lengths.labels, labels.len());
     let store_end = at_most(lengths.store, store.len());
     run_lent(
+        out,
         &registers[..registers_end],
         &paths[..paths_end],
         &fields[..fields_end],
         &labels[..labels_end],
         &mut store[..store_end],
         command,
-    );
+    )
 }
 
 // Runs a command, and answers what is lent from then on.
-fn run_command(
+fn run_command<W: Write>(
+    out: &mut W,
     registers: &mut [u64],
     paths: &mut [u8],
     fields: &mut [u64],
@@ -260,56 +265,60 @@ fn run_command(
     store: &mut [u64],
     lengths: Lengths,
     command: Command,
-) -> Lengths {
-    let code = command.code;
-    match code {
+) -> io::Result<Lengths> {
+    match command.code {
         3 => {
             put_number(registers, paths, fields, labels, store, command);
-            lengths
+            Ok(lengths)
         }
-        4 => cut(lengths, command),
+        4 => Ok(cut(lengths, command)),
         _ => {
-            run_on_parts(registers, paths, fields, labels, store, lengths, command);
-            lengths
+            run_on_parts(
+                out, registers, paths, fields, labels, store, lengths, command,
+            )?;
+            Ok(lengths)
         }
     }
 }
 
 // Compiles a text: the rows are lent whole, the store with some numbers more.
-fn open_map(
+fn open_map<W: Write>(
+    out: &mut W,
     text: &[u8],
     registers: &mut [u64],
     paths: &mut [u8],
     fields: &mut [u64],
     labels: &mut [u8],
-) -> Lengths {
+) -> io::Result<Lengths> {
     match compile::compile(text, registers, paths, fields, labels) {
         Compiled::Refused(number, _) => {
-            put_line(b"text refused=", number as u64);
-            Lengths {
+            put_line(out, b"text refused=", number as u64)?;
+            Ok(Lengths {
                 registers: 0,
                 paths: 0,
                 fields: 0,
                 labels: 0,
                 store: 0,
-            }
+            })
         }
         Compiled::Accepted(count, all) => {
             let n = at_most(count, 1024);
             let m = at_most(all, 4096);
-            Lengths {
+            Ok(Lengths {
                 registers: n * basics::REGISTER_ROW_WIDTH,
                 paths: n * basics::PATH_ROW_WIDTH,
                 fields: m * basics::FIELD_ROW_WIDTH,
                 labels: m * basics::NAME_WIDTH,
                 store: m + PAST,
-            }
+            })
         }
     }
 }
 
 // Reads and runs so many commands.
-fn run_commands(
+fn run_commands<R: Read, W: Write>(
+    input: &mut R,
+    out: &mut W,
     registers: &mut [u64],
     paths: &mut [u8],
     fields: &mut [u64],
@@ -317,25 +326,40 @@ fn run_commands(
     store: &mut [u64],
     start: Lengths,
     commands: usize,
-) {
+) -> io::Result<()> {
     let mut lengths = start;
-    let mut left = commands;
-    while left > 0 {
-        left -= 1;
-        let command = read_command();
-        lengths = run_command(registers, paths, fields, labels, store, lengths, command);
+    for _ in 0..commands {
+        let command = read_command(input)?;
+        lengths = run_command(
+            out, registers, paths, fields, labels, store, lengths, command,
+        )?;
     }
+    Ok(())
 }
 
 // Runs the commands of a case on fresh tables.
-fn run_on_map(text: &[u8], commands: usize) {
+fn run_on_map<R: Read, W: Write>(
+    input: &mut R,
+    out: &mut W,
+    text: &[u8],
+    commands: usize,
+) -> io::Result<()> {
     let mut registers = [0u64; REGISTERS];
     let mut paths = [0u8; PATHS];
     let mut fields = [0u64; FIELDS];
     let mut labels = [0u8; LABELS];
     let mut store = [UNTOUCHED; STORE];
-    let lengths = open_map(text, &mut registers, &mut paths, &mut fields, &mut labels);
+    let lengths = open_map(
+        out,
+        text,
+        &mut registers,
+        &mut paths,
+        &mut fields,
+        &mut labels,
+    )?;
     run_commands(
+        input,
+        out,
         &mut registers,
         &mut paths,
         &mut fields,
@@ -343,29 +367,36 @@ fn run_on_map(text: &[u8], commands: usize) {
         &mut store,
         lengths,
         commands,
-    );
+    )
 }
 
 // Runs the next case; answers whether there was one.
-fn run_case(case: u64, room: &mut [u8]) -> bool {
-    let text = case_io::read_text(room);
-    let end = text.length;
+fn run_case<R: Read, W: Write>(
+    input: &mut R,
+    out: &mut W,
+    case: u64,
+    room: &mut [u8],
+) -> io::Result<bool> {
+    let text = case_io::read_text(input, room)?;
     if !text.whole {
-        return false;
+        return Ok(false);
     }
-    put_line(b"case ", case);
-    match case_io::read_length(libc::STDIN_FILENO) {
-        Length::Of(commands) => run_on_map(&room[..end], commands),
+    put_line(out, b"case ", case)?;
+    match case_io::read_length(input)? {
+        Length::Of(commands) => run_on_map(input, out, &room[..text.length], commands)?,
         Length::Missing => {}
     }
-    true
+    Ok(true)
 }
 
-fn main() {
-    let mut space = [0u8; LONGEST_TEXT];
-    let room: &mut [u8] = &mut space;
-    let mut case = 0;
-    while case < MOST_CASES && run_case(case, room) {
-        case += 1;
+fn main(rt: HostRuntime) -> io::Result<()> {
+    let mut room = [0u8; LONGEST_TEXT];
+    let mut input = rt.reader();
+    let mut out = io::writer(&rt);
+    for case in 0..MOST_CASES {
+        if !run_case(&mut input, &mut out, case, &mut room)? {
+            break;
+        }
     }
+    Ok(())
 }

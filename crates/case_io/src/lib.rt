@@ -1,11 +1,14 @@
 // What the test programs share: reading the parts of a pack, each behind its little-endian u32 length, and writing their lines.
 #![tactic(auto)]
 
-ghost use Rattle.std.specs.Prelude.{◌≡◌, ◌<◌};
-ghost use Rattle.io.specs.Counts.{IsPrefixLen};
+ghost use Rattle.std.specs.Prelude.{◌≡◌, ◌<◌, IfOk, OnOk, OnErr, ◌++◌, decimal};
+ghost use Rattle.std.specs.Counts.{IsPrefixLen};
+ghost use Rattle.std.specs.Io.KnownBytes.{Appends};
+ghost use Rattle.streams.specs.Filled.{KeepsRead, LosesFront};
 
 use lex::Verdict;
-use libc::{STDIN_FILENO, STDOUT_FILENO};
+use std::io;
+use std::io::{Read, Write};
 
 // A byte more than a text may have.
 pub const LONGEST_TEXT: usize = 65537;
@@ -27,24 +30,28 @@ pub struct InputPart {
     pub length: usize,
 }
 
-pub fn put(bytes: &[u8]) {
-    io::write_all(STDOUT_FILENO, bytes);
+pub fn put<W: Write>(out: &mut W, bytes: &[u8]) -> io::Result<()>
+    ensures { OnOk result (Appends (W.contents out.old) (W.contents out.new) bytes.now) }
+{
+    out.write_all(bytes)
 }
 
 // A label, then a number.
-pub fn put_number(label: &[u8], n: u64) {
-    put(label);
-    io::print_decimal(STDOUT_FILENO, n);
+pub fn put_number<W: Write>(out: &mut W, label: &[u8], n: u64) -> io::Result<()>
+    ensures { OnOk result (Appends (W.contents out.old) (W.contents out.new) (label.now ++ decimal n)) }
+{
+    put(out, label)?;
+    write!(out, "{n}")
 }
 
 // The end of a case's line: its verdict.
-pub fn put_verdict(verdict: Verdict) {
+pub fn put_verdict<W: Write>(out: &mut W, verdict: Verdict) -> io::Result<()> {
     match verdict {
-        Verdict::Accepted => put(b" accepted\n"),
+        Verdict::Accepted => put(out, b" accepted\n"),
         Verdict::Refused(number, place) => {
-            put_number(b" refused=", number as u64);
-            put_number(b" at=", place.at as u64);
-            put(b"\n");
+            put_number(out, b" refused=", number as u64)?;
+            put_number(out, b" at=", place.at as u64)?;
+            put(out, b"\n")
         }
     }
 }
@@ -55,50 +62,55 @@ pub fn wide(b: u8) -> usize
     b as usize
 }
 
-pub fn read_length(fd: i32) -> Length {
+pub fn read_length<R: Read>(input: &mut R) -> io::Result<Length>
+    ensures { LosesFront (R.remaining input.old) (R.remaining input.new) }
+{
     let mut bytes = [0u8; 4];
-    if io::read_full(fd, &mut bytes) < 4 {
-        return Length::Missing;
+    if streams::fill(input, &mut bytes)? < 4 {
+        return Ok(Length::Missing);
     }
-    Length::Of(
+    Ok(Length::Of(
         wide(bytes[0]) + 256 * (wide(bytes[1]) + 256 * (wide(bytes[2]) + 256 * wide(bytes[3]))),
-    )
+    ))
 }
 
 // Reads a part of a length, if the room holds it.
-fn read_bytes(fd: i32, length: usize, room: &mut [u8]) -> InputPart
-    ensures { IsPrefixLen result.length room.new }
+fn read_bytes<R: Read>(input: &mut R, length: usize, room: &mut [u8]) -> io::Result<InputPart>
+    ensures ok { IfOk result (λ part. IsPrefixLen part.length room.new) }
+    ensures err { OnErr result (KeepsRead (R.remaining input.old) (R.remaining input.new) room.new) }
 {
     if length > room.len() {
-        return InputPart {
+        return Ok(InputPart {
             whole: false,
             length: 0,
-        };
+        });
     }
-    let got = io::read_full(fd, &mut room[..length]);
-    InputPart {
+    let got = streams::fill(input, &mut room[..length])?;
+    Ok(InputPart {
         whole: got == length,
         length,
-    }
+    })
 }
 
 // Reads the part whose length was read before.
-pub fn read_part(fd: i32, length: Length, room: &mut [u8]) -> InputPart
-    ensures { IsPrefixLen result.length room.new }
+pub fn read_part<R: Read>(input: &mut R, length: Length, room: &mut [u8]) -> io::Result<InputPart>
+    ensures ok { IfOk result (λ part. IsPrefixLen part.length room.new) }
+    ensures err { OnErr result (KeepsRead (R.remaining input.old) (R.remaining input.new) room.new) }
 {
     match length {
-        Length::Of(bytes) => read_bytes(fd, bytes, room),
-        Length::Missing => InputPart {
+        Length::Of(bytes) => read_bytes(input, bytes, room),
+        Length::Missing => Ok(InputPart {
             whole: false,
             length: 0,
-        },
+        }),
     }
 }
 
-// Reads the next text of standard input.
-pub fn read_text(room: &mut [u8]) -> InputPart
-    ensures { IsPrefixLen result.length room.new }
+// Reads the next text of an input.
+pub fn read_text<R: Read>(input: &mut R, room: &mut [u8]) -> io::Result<InputPart>
+    ensures ok { IfOk result (λ part. IsPrefixLen part.length room.new) }
+    ensures err { OnErr result (LosesFront (R.remaining input.old) (R.remaining input.new)) }
 {
-    let length = read_length(STDIN_FILENO);
-    read_part(STDIN_FILENO, length, room)
+    let length = read_length(input)?;
+    read_part(input, length, room)
 }

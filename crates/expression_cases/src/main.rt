@@ -4,43 +4,52 @@
 
 use case_io::{LONGEST_TEXT, MOST_CASES, put, put_number};
 use expressions::{Number, NumberReading, Refusal};
+use std::io;
+use std::io::{Read, Write};
 
-fn show_number(number: Number, next: usize) {
-    let refusal = number.refusal;
-    match refusal {
-        Refusal::Nowhere => put_number(b" value=", number.value),
-        Refusal::AtOperator(place) => put_number(b" refused=", place as u64),
+fn show_number<W: Write>(out: &mut W, number: Number, next: usize) -> io::Result<()> {
+    match number.refusal {
+        Refusal::Nowhere => put_number(out, b" value=", number.value)?,
+        Refusal::AtOperator(place) => put_number(out, b" refused=", place as u64)?,
     }
-    put_number(b" place=", number.place as u64);
-    put_number(b" next=", next as u64);
+    put_number(out, b" place=", number.place as u64)?;
+    put_number(out, b" next=", next as u64)
 }
 
-fn show_case(case: u64, text: &[u8]) {
-    put_number(b"", case);
+fn show_case<W: Write>(out: &mut W, case: u64, text: &[u8]) -> io::Result<()> {
+    put_number(out, b"", case)?;
     match expressions::read_number(text, 0) {
-        NumberReading::Done(number, next) => show_number(number, next),
+        NumberReading::Done(number, next) => show_number(out, number, next)?,
         NumberReading::Refused(number, place) => {
-            put_number(b" stop=", number as u64);
-            put_number(b" at=", place as u64);
+            put_number(out, b" stop=", number as u64)?;
+            put_number(out, b" at=", place as u64)?;
         }
     }
-    put(b"\n");
+    put(out, b"\n")
 }
 
-fn run_case(case: u64, room: &mut [u8]) -> bool {
-    let text = case_io::read_text(room);
-    let length = text.length;
+// Runs the next case; answers whether there was one.
+fn run_case<R: Read, W: Write>(
+    input: &mut R,
+    out: &mut W,
+    case: u64,
+    room: &mut [u8],
+) -> io::Result<bool> {
+    let text = case_io::read_text(input, room)?;
     if text.whole {
-        show_case(case, &room[..length]);
+        show_case(out, case, &room[..text.length])?;
     }
-    text.whole
+    Ok(text.whole)
 }
 
-fn main() {
-    let mut space = [0u8; LONGEST_TEXT];
-    let room: &mut [u8] = &mut space;
-    let mut case = 0;
-    while case < MOST_CASES && run_case(case, room) {
-        case += 1;
+fn main(rt: HostRuntime) -> io::Result<()> {
+    let mut room = [0u8; LONGEST_TEXT];
+    let mut input = rt.reader();
+    let mut out = io::writer(&rt);
+    for case in 0..MOST_CASES {
+        if !run_case(&mut input, &mut out, case, &mut room)? {
+            break;
+        }
     }
+    Ok(())
 }

@@ -2,13 +2,15 @@
 // number of each field, or one line with the map's refusal. What goes wrong with a file is said on standard error.
 #![tactic(auto)]
 
-ghost use Rattle.std.specs.Prelude.{◌≤◌};
-ghost use Rattle.io.specs.Counts.{IsPrefixLen};
+ghost use Rattle.std.specs.Prelude.{◌≤◌, IfOk, length};
 
 use compile::Compiled;
-use libc::{STDERR_FILENO, STDOUT_FILENO};
 use lines::Sink;
 use player::{Played, Progress};
+use std::env::{Env, FillError};
+use std::fs::Files;
+use std::io::{Read, Write};
+use std::{fs, io, str};
 
 // One byte more than a text may have, so that a longer one is seen to be.
 const INPUT: usize = basics::TEXT_LIMIT + 1;
@@ -18,19 +20,25 @@ const PART: usize = 512;
 
 const OUTPUT: usize = 128 * PART;
 
-// A text that was read: whether it could be, and its length.
-#[derive(Clone, Copy)]
-struct TextRead {
-    done: bool,
-    length: usize,
+// The room for the name of a file.
+const NAME: usize = 4096;
+
+// What ends a replay early.
+#[derive(Drop)]
+enum Failure {
+    OpenMap(io::Error),
+    ReadMap(io::Error),
+    OpenLog(io::Error),
+    ReadLog(io::Error),
+    Write(io::Error),
+    NoRoom,
 }
 
-// Where a log is read, whether there may be more to play, and whether it could be read and shown so far.
+// Where a log is read, and whether there may be more to play.
 #[derive(Clone, Copy)]
 struct Turn {
     progress: Progress,
     more: bool,
-    fine: bool,
 }
 
 fn at_most(n: usize, most: usize) -> usize
@@ -39,67 +47,39 @@ fn at_most(n: usize, most: usize) -> usize
     if n < most { n } else { most }
 }
 
-// Says what cannot be done with which file, and why.
-fn complain(what: &[u8], path: &[u8]) {
-    io::write_all(STDERR_FILENO, what);
-    os::fail(path);
+// Says what could not be done with which file, and why. Where that fails too, there is nobody left to tell.
+fn complain<R: Eprint>(rt: &R, failure: &Failure, map: &str, log: &str) {
+    let _ = match failure {
+        Failure::OpenMap(error) => eprintln!(rt; "replay: cannot open the map {map}: {error}"),
+        Failure::ReadMap(error) => eprintln!(rt; "replay: cannot read the map {map}: {error}"),
+        Failure::OpenLog(error) => eprintln!(rt; "replay: cannot open the log {log}: {error}"),
+        Failure::ReadLog(error) => eprintln!(rt; "replay: cannot read the log {log}: {error}"),
+        Failure::Write(error) => eprintln!(rt; "replay: cannot write the output: {error}"),
+        Failure::NoRoom => eprintln!(rt; "replay: no room for the output"),
+    };
 }
 
-// Says what cannot be done with which file, where the system has no reason to give.
-fn tell(what: &[u8], path: &[u8], why: &[u8]) {
-    io::write_all(STDERR_FILENO, what);
-    io::write_all(STDERR_FILENO, path);
-    io::write_all(STDERR_FILENO, why);
-}
-
-// Writes an output as far as it is filled, and answers whether that went well.
-fn show(out: &[u8], sink: Sink) -> bool {
+// Writes a text as far as it is filled.
+fn show<W: Write>(out: &mut W, text: &[u8], sink: Sink) -> Result<(), Failure> {
     if sink.full {
         // never so: the room is larger than what a part of a log or a register's fields write
-        io::write_all(STDERR_FILENO, b"replay: no room for the output\n");
-        return false;
+        return Err(Failure::NoRoom);
     }
-    let count = at_most(sink.at, out.len());
-    let written = io::write_all(STDOUT_FILENO, &out[..count]);
-    if !written {
-        complain(b"replay: cannot write ", b"the output");
-    }
-    written
-}
-
-// Whether a file is at its end: a read that fails, or that goes on where another one failed, says that it is not.
-fn is_ended(fd: i32, path: &[u8]) -> bool {
-    let mut rest = [0u8; 1];
-    let got = libc::read(fd, &mut rest);
-    if got < 0 {
-        complain(b"replay: cannot read the map ", path);
-    }
-    if got > 0 {
-        tell(b"replay: cannot read the map ", path, b": a read failed\n");
-    }
-    got == 0
+    let count = at_most(sink.at, text.len());
+    out.write_all(&text[..count]).map_err(Failure::Write)
 }
 
 // Reads a text as far as there is room.
-fn read_text(path: &[u8], text: &mut [u8]) -> TextRead
-    ensures { IsPrefixLen result.length text.new }
+fn read_text<F: Files>(files: &F, path: &str, text: &mut [u8]) -> Result<usize, Failure>
+    ensures { IfOk result (λ n. n ≤ length text.new) }
 {
-    let fd = os::open_read(path);
-    if fd < 0 {
-        complain(b"replay: cannot open the map ", path);
-        return TextRead {
-            done: false,
-            length: 0,
-        };
-    }
-    let length = io::read_full(fd, text);
-    let done = length == text.len() || is_ended(fd, path);
-    libc::close(fd);
-    TextRead { done, length }
+    let mut file = fs::open(files, path).map_err(Failure::OpenMap)?;
+    streams::fill(&mut file, text).map_err(Failure::ReadMap)
 }
 
 // Plays some bytes of a log, and writes what they write.
-fn play_bytes(
+fn play_bytes<W: Write>(
+    out: &mut W,
     registers: &[u64],
     paths: &[u8],
     fields: &[u64],
@@ -107,54 +87,45 @@ fn play_bytes(
     store: &mut [u64],
     progress: Progress,
     part: &[u8],
-) -> Turn {
-    let mut out = [0u8; OUTPUT];
+) -> Result<Turn, Failure> {
+    let mut text = [0u8; OUTPUT];
     let sink = Sink { at: 0, full: false };
     let start = Played { progress, sink };
     let played = player::play(
-        registers, paths, fields, labels, store, &mut out, start, part,
+        registers, paths, fields, labels, store, &mut text, start, part,
     );
-    let fine = show(&out, played.sink);
+    show(out, &text, played.sink)?;
     let next = played.progress;
-    Turn {
+    Ok(Turn {
         progress: next,
-        more: fine && !next.stopped,
-        fine,
-    }
+        more: !next.stopped,
+    })
 }
 
 // Reads a part of a log and plays it. The end of the log ends its last line.
-fn play_part(
+fn play_part<L: Read, W: Write>(
+    log: &mut L,
+    out: &mut W,
     registers: &[u64],
     paths: &[u8],
     fields: &[u64],
     labels: &[u8],
     store: &mut [u64],
     progress: Progress,
-    log: i32,
-    path: &[u8],
-) -> Turn {
+) -> Result<Turn, Failure> {
     let mut part = [0u8; PART];
-    let got = libc::read(log, &mut part);
-    if got < 0 {
-        complain(b"replay: cannot read the log ", path);
-        return Turn {
-            progress,
+    let count = log.read(&mut part).map_err(Failure::ReadLog)?;
+    if count == 0 {
+        let last = play_bytes(
+            out, registers, paths, fields, labels, store, progress, b"\n",
+        )?;
+        return Ok(Turn {
+            progress: last.progress,
             more: false,
-            fine: false,
-        };
+        });
     }
-    if got == 0 {
-        let last = play_bytes(registers, paths, fields, labels, store, progress, b"\n");
-        let behind = last.progress;
-        return Turn {
-            progress: behind,
-            more: false,
-            fine: last.fine,
-        };
-    }
-    let count = io::count(got, &part);
     play_bytes(
+        out,
         registers,
         paths,
         fields,
@@ -165,146 +136,169 @@ fn play_part(
     )
 }
 
-// Plays a log to its end or to a line that is none, and answers whether it could be read and shown so far. The loop counts its turns down,
-// since nothing says that a log ends.
-fn play_log(
+// Plays a log to its end or to a line that is none. The loop counts its turns, since nothing says that a log ends.
+fn play_log<L: Read, W: Write>(
+    log: &mut L,
+    out: &mut W,
     registers: &[u64],
     paths: &[u8],
     fields: &[u64],
     labels: &[u8],
     store: &mut [u64],
-    log: i32,
-    path: &[u8],
-) -> bool {
+) -> Result<(), Failure> {
     let mut progress = player::started();
-    let mut more = true;
-    let mut fine = true;
-    let mut turns = u64::MAX;
-    while turns > 0 && more {
-        let turn = play_part(registers, paths, fields, labels, store, progress, log, path);
+    for _ in 0..u64::MAX {
+        let turn = play_part(log, out, registers, paths, fields, labels, store, progress)?;
+        if !turn.more {
+            break;
+        }
         progress = turn.progress;
-        more = turn.more;
-        fine = turn.fine;
-        turns -= 1;
     }
-    fine
+    Ok(())
 }
 
-// The numbers of a register's fields, and whether they could be shown.
-fn show_register(registers: &[u64], paths: &[u8], labels: &[u8], store: &[u64], i: usize) -> bool {
-    let mut out = [0u8; OUTPUT];
+// The numbers of a register's fields.
+fn show_register<W: Write>(
+    out: &mut W,
+    registers: &[u64],
+    paths: &[u8],
+    labels: &[u8],
+    store: &[u64],
+    i: usize,
+) -> Result<(), Failure> {
+    let mut text = [0u8; OUTPUT];
     let start = Sink { at: 0, full: false };
-    let sink = player::put_numbers(&mut out, start, registers, paths, labels, store, i);
-    show(&out, sink)
+    let sink = player::put_numbers(&mut text, start, registers, paths, labels, store, i);
+    show(out, &text, sink)
 }
 
 // The numbers of all fields.
-fn show_fields(registers: &[u64], paths: &[u8], labels: &[u8], store: &[u64]) {
+fn show_fields<W: Write>(
+    out: &mut W,
+    registers: &[u64],
+    paths: &[u8],
+    labels: &[u8],
+    store: &[u64],
+) -> Result<(), Failure> {
     let count = registers.len() / basics::REGISTER_ROW_WIDTH;
-    let mut i = 0;
-    while i < count && show_register(registers, paths, labels, store, i) {
-        i += 1;
+    for i in 0..count {
+        show_register(out, registers, paths, labels, store, i)?;
     }
+    Ok(())
 }
 
 // Plays the log of this name on a map, from the reset store.
-fn replay_rows(registers: &[u64], paths: &[u8], fields: &[u64], labels: &[u8], path: &[u8]) {
-    let log = os::open_read(path);
-    if log < 0 {
-        complain(b"replay: cannot open the log ", path);
-        return;
-    }
+fn replay_rows<F: Files, W: Write>(
+    files: &F,
+    out: &mut W,
+    registers: &[u64],
+    paths: &[u8],
+    fields: &[u64],
+    labels: &[u8],
+    path: &str,
+) -> Result<(), Failure> {
+    let mut log = fs::open(files, path).map_err(Failure::OpenLog)?;
     let mut store = [0u64; basics::FIELD_LIMIT];
     access::reset(registers, paths, fields, labels, &mut store);
-    let fine = play_log(registers, paths, fields, labels, &mut store, log, path);
-    libc::close(log);
-    if fine {
-        show_fields(registers, paths, labels, &store);
-    }
+    play_log(&mut log, out, registers, paths, fields, labels, &mut store)?;
+    show_fields(out, registers, paths, labels, &store)
 }
 
-fn show_refusal(number: u64, at: u64) {
-    let mut out = [0u8; OUTPUT];
-    let count = reply::write_refusal(&mut out, number, at);
+fn show_refusal<W: Write>(out: &mut W, number: u64, at: u64) -> Result<(), Failure> {
+    let mut text = [0u8; OUTPUT];
+    let count = reply::write_refusal(&mut text, number, at);
     show(
-        &out,
+        out,
+        &text,
         Sink {
             at: count,
             full: false,
         },
-    );
+    )
 }
 
 // Plays the log of this name on the first rows of the tables.
-fn replay_tables(
+fn replay_tables<F: Files, W: Write>(
+    files: &F,
+    out: &mut W,
     registers: &[u64],
     paths: &[u8],
     fields: &[u64],
     labels: &[u8],
     count: usize,
     all: usize,
-    path: &[u8],
-) {
+    path: &str,
+) -> Result<(), Failure> {
     let registers_end = player::rows_end(count, basics::REGISTER_ROW_WIDTH, registers.len());
     let paths_end = player::rows_end(count, basics::PATH_ROW_WIDTH, paths.len());
     let fields_end = player::rows_end(all, basics::FIELD_ROW_WIDTH, fields.len());
     let labels_end = player::rows_end(all, basics::NAME_WIDTH, labels.len());
     replay_rows(
+        files,
+        out,
         &registers[..registers_end],
         &paths[..paths_end],
         &fields[..fields_end],
         &labels[..labels_end],
         path,
-    );
+    )
 }
 
 // Plays the log of this name on the map of a text.
-fn replay_text(text: &[u8], path: &[u8]) {
+fn replay_text<F: Files, W: Write>(
+    files: &F,
+    out: &mut W,
+    text: &[u8],
+    path: &str,
+) -> Result<(), Failure> {
     let mut registers = [0u64; reply::REGISTERS];
     let mut paths = [0u8; reply::PATHS];
     let mut fields = [0u64; reply::FIELDS];
     let mut labels = [0u8; reply::LABELS];
     match compile::compile(text, &mut registers, &mut paths, &mut fields, &mut labels) {
-        Compiled::Refused(number, place) => show_refusal(number as u64, place.at as u64),
-        Compiled::Accepted(count, all) => {
-            replay_tables(&registers, &paths, &fields, &labels, count, all, path)
-        }
+        Compiled::Refused(number, place) => show_refusal(out, number as u64, place.at as u64),
+        Compiled::Accepted(count, all) => replay_tables(
+            files, out, &registers, &paths, &fields, &labels, count, all, path,
+        ),
     }
 }
 
 // Reads the map of one name and plays the log of another on it.
-fn replay_files(map: &[u8], log: &[u8]) {
+fn replay_files<R: Files + Print + Eprint>(rt: &R, map: &str, log: &str) -> Result<(), Failure> {
     let mut text = [0u8; INPUT];
-    let read = read_text(map, &mut text);
-    if !read.done {
-        return;
+    let length = read_text(rt, map, &mut text)?;
+    if length == INPUT {
+        let _ = eprintln!(rt; "replay: cannot take the map {map}: longer than 65536 bytes");
     }
-    if read.length == INPUT {
-        tell(
-            b"replay: cannot take the map ",
-            map,
-            b": longer than 65536 bytes\n",
-        );
-    }
-    replay_text(&text[..read.length], log);
+    replay_text(rt, &mut io::writer(rt), &text[..length], log)
 }
 
-fn main() {
-    let mut map = io::buffer();
-    let mut log = io::buffer();
-    if os::arg_count() != 3 {
-        io::write_all(STDERR_FILENO, b"usage: replay MAP LOG\n");
+fn is_given<E: Env>(env: &E, index: usize) -> bool {
+    !matches!(env.arg(index, &mut []), Err(FillError::NotPresent))
+}
+
+// An argument, where it is text that the room holds.
+fn argument<'a, E: Env>(env: &E, index: usize, room: &'a mut [u8]) -> Option<&'a str> {
+    let length = env.arg(index, room).ok()?;
+    str::from_utf8(&room[..length]).ok()
+}
+
+fn main(rt: HostRuntime) {
+    let mut map_room = [0u8; NAME];
+    let mut log_room = [0u8; NAME];
+    if !is_given(&rt, 2) || is_given(&rt, 3) {
+        let _ = eprintln!(rt; "usage: replay MAP LOG");
         return;
     }
-    let map_length = os::arg(1, &mut map);
-    if os::errno() != 0 {
-        os::fail(b"replay: the map's name");
+    let Some(map) = argument(&rt, 1, &mut map_room) else {
+        let _ = eprintln!(rt; "replay: the map's name: too long, or no text");
         return;
-    }
-    let log_length = os::arg(2, &mut log);
-    if os::errno() != 0 {
-        os::fail(b"replay: the log's name");
+    };
+    let Some(log) = argument(&rt, 2, &mut log_room) else {
+        let _ = eprintln!(rt; "replay: the log's name: too long, or no text");
         return;
+    };
+    if let Err(failure) = replay_files(&rt, map, log) {
+        complain(&rt, &failure, map, log);
     }
-    replay_files(&map[..map_length], &log[..log_length]);
 }

@@ -3,13 +3,15 @@
 // example: whether its listing and what its log plays are those of the files beside it.
 #![tactic(auto)]
 
-ghost use Rattle.std.specs.Prelude.{◌≤◌};
-ghost use Rattle.io.specs.Counts.{IsPrefixLen};
+ghost use Rattle.std.specs.Prelude.{◌≤◌, IfOk, length};
 
 use case_io::MOST_CASES;
 use compile::Compiled;
 use lines::Sink;
 use player::Played;
+use std::fs::Files;
+use std::io::{Read, Write};
+use std::{fs, io};
 
 // Room for a text, a log, an answer and an output.
 const ROOM: usize = 65536;
@@ -135,147 +137,174 @@ fn replay(text: &[u8], log: &[u8], out: &mut [u8], more: usize) -> usize {
 }
 
 // Whether the first bytes of an output are these; shows them where they are not.
-fn is_same(out: &[u8], count: usize, due: &[u8]) -> bool {
-    let end = at_most(count, out.len());
-    let start = &out[..end];
+fn is_same<W: Write>(out: &mut W, given: &[u8], count: usize, due: &[u8]) -> io::Result<bool> {
+    let end = at_most(count, given.len());
+    let start = &given[..end];
     if chars::same(start, due) {
-        return true;
+        return Ok(true);
     }
-    case_io::put(b"got: ");
-    case_io::put(start);
-    false
+    case_io::put(out, b"got: ")?;
+    case_io::put(out, start)?;
+    Ok(false)
 }
 
 // Whether a text and a log give this answer.
-fn is_answer(text: &[u8], log: &[u8], answer: &[u8], more: usize) -> bool {
-    let mut out = [0u8; ROOM];
-    let count = replay(text, log, &mut out, more);
-    is_same(&out, count, answer)
+fn is_answer<W: Write>(
+    out: &mut W,
+    text: &[u8],
+    log: &[u8],
+    answer: &[u8],
+    more: usize,
+) -> io::Result<bool> {
+    let mut given = [0u8; ROOM];
+    let count = replay(text, log, &mut given, more);
+    is_same(out, &given, count, answer)
 }
 
 // Whether a text has this listing.
-fn is_listing(text: &[u8], listing: &[u8]) -> bool {
-    let mut out = [0u8; ROOM];
-    let count = reply::reply(text, &mut out);
-    is_same(&out, count, listing)
+fn is_listing<W: Write>(out: &mut W, text: &[u8], listing: &[u8]) -> io::Result<bool> {
+    let mut given = [0u8; ROOM];
+    let count = reply::reply(text, &mut given);
+    is_same(out, &given, count, listing)
 }
 
-fn run_case(
-    pack: i32,
+fn run_case<R: Read, W: Write>(
+    pack: &mut R,
+    out: &mut W,
     case: u64,
     text_room: &mut [u8],
     log_room: &mut [u8],
     answer_room: &mut [u8],
-) -> CaseOutcome {
-    let text_length = case_io::read_length(pack);
-    let log_length = case_io::read_length(pack);
-    let answer_length = case_io::read_length(pack);
-    let text = case_io::read_part(pack, text_length, text_room);
-    let log = case_io::read_part(pack, log_length, log_room);
-    let answer = case_io::read_part(pack, answer_length, answer_room);
+) -> io::Result<CaseOutcome> {
+    let text_length = case_io::read_length(pack)?;
+    let log_length = case_io::read_length(pack)?;
+    let answer_length = case_io::read_length(pack)?;
+    let text = case_io::read_part(pack, text_length, text_room)?;
+    let log = case_io::read_part(pack, log_length, log_room)?;
+    let answer = case_io::read_part(pack, answer_length, answer_room)?;
     if !text.whole || !log.whole || !answer.whole {
-        return CaseOutcome::NoCase;
+        return Ok(CaseOutcome::NoCase);
     }
     let same = is_answer(
+        out,
         &text_room[..text.length],
         &log_room[..log.length],
         &answer_room[..answer.length],
         (case % 64) as usize,
-    );
+    )?;
     if same {
-        return CaseOutcome::Agrees;
+        return Ok(CaseOutcome::Agrees);
     }
-    case_io::put_number(b"differs: ", case);
-    case_io::put(b"\n");
-    CaseOutcome::Differs
+    case_io::put_number(out, b"differs: ", case)?;
+    case_io::put(out, b"\n")?;
+    Ok(CaseOutcome::Differs)
 }
 
-fn run_pack() {
-    let mut text_space = io::large_buffer();
-    let mut log_space = io::large_buffer();
-    let mut answer_space = io::large_buffer();
-    let text_room: &mut [u8] = &mut text_space;
-    let log_room: &mut [u8] = &mut log_space;
-    let answer_room: &mut [u8] = &mut answer_space;
-    let pack = os::open_read(b"replay.pack");
+fn run_pack<R: Read, W: Write>(pack: &mut R, out: &mut W) -> io::Result<()> {
+    let mut text_room = [0u8; ROOM];
+    let mut log_room = [0u8; ROOM];
+    let mut answer_room = [0u8; ROOM];
     let mut cases = 0;
     let mut agreed: u64 = 0;
     while cases < MOST_CASES {
-        match run_case(pack, cases, text_room, log_room, answer_room) {
+        match run_case(
+            pack,
+            out,
+            cases,
+            &mut text_room,
+            &mut log_room,
+            &mut answer_room,
+        )? {
             CaseOutcome::Agrees => agreed += 1,
             CaseOutcome::Differs => {}
             CaseOutcome::NoCase => break,
         }
         cases += 1;
     }
-    case_io::put_number(b"cases=", cases);
-    case_io::put_number(b" agree=", agreed);
-    case_io::put(b"\n");
+    case_io::put_number(out, b"cases=", cases)?;
+    case_io::put_number(out, b" agree=", agreed)?;
+    case_io::put(out, b"\n")
 }
 
 // Reads a file as far as there is room.
-fn read_file(name: &[u8], room: &mut [u8]) -> usize
-    ensures { IsPrefixLen result room.new }
+fn read_file<F: Files>(files: &F, name: &str, room: &mut [u8]) -> io::Result<usize>
+    ensures { IfOk result (λ n. n ≤ length room.new) }
 {
-    let fd = os::open_read(name);
-    io::read_full(fd, room)
+    let mut file = fs::open(files, name)?;
+    streams::fill(&mut file, room)
 }
 
-fn put_verdict(label: &[u8], is_same: bool) {
-    case_io::put(label);
+fn put_verdict<W: Write>(out: &mut W, label: &[u8], is_same: bool) -> io::Result<()> {
+    case_io::put(out, label)?;
     if is_same {
-        case_io::put(b" agrees");
+        case_io::put(out, b" agrees")
     } else {
-        case_io::put(b" differs");
+        case_io::put(out, b" differs")
     }
 }
 
-// An example: its text, its listing, its log and what that plays.
-fn run_example(
+// The files of an example: its text, its listing, its log and what that plays.
+#[derive(Clone, Copy)]
+struct ExampleFiles<'a> {
+    text: &'a str,
+    listing: &'a str,
+    log: &'a str,
+    played: &'a str,
+}
+
+fn run_example<F: Files, W: Write>(
+    files: &F,
+    out: &mut W,
     name: &[u8],
-    text_file: &[u8],
-    listing_file: &[u8],
-    log_file: &[u8],
-    played_file: &[u8],
-) {
+    example: ExampleFiles<'_>,
+) -> io::Result<()> {
     let mut text = [0u8; ROOM];
     let mut answer = [0u8; ROOM];
     let mut log = [0u8; ROOM];
-    let text_end = read_file(text_file, &mut text);
-    let listing_end = read_file(listing_file, &mut answer);
-    case_io::put(name);
-    put_verdict(
-        b" listing",
-        is_listing(&text[..text_end], &answer[..listing_end]),
-    );
-    let log_end = read_file(log_file, &mut log);
-    let played_end = read_file(played_file, &mut answer);
-    let same = is_answer(&text[..text_end], &log[..log_end], &answer[..played_end], 0);
-    put_verdict(b" played", same);
-    case_io::put(b"\n");
+    let text_end = read_file(files, example.text, &mut text)?;
+    let listing_end = read_file(files, example.listing, &mut answer)?;
+    case_io::put(out, name)?;
+    let listed = is_listing(out, &text[..text_end], &answer[..listing_end])?;
+    put_verdict(out, b" listing", listed)?;
+    let log_end = read_file(files, example.log, &mut log)?;
+    let played_end = read_file(files, example.played, &mut answer)?;
+    let played = is_answer(
+        out,
+        &text[..text_end],
+        &log[..log_end],
+        &answer[..played_end],
+        0,
+    )?;
+    put_verdict(out, b" played", played)?;
+    case_io::put(out, b"\n")
 }
 
-fn main() {
-    run_pack();
-    run_example(
-        b"overlay:",
-        b"overlay.rdl",
-        b"overlay.listing",
-        b"overlay.log",
-        b"overlay.played",
-    );
-    run_example(
-        b"clearing:",
-        b"clearing.rdl",
-        b"clearing.listing",
-        b"clearing.log",
-        b"clearing.played",
-    );
-    run_example(
-        b"toggling:",
-        b"toggling.rdl",
-        b"toggling.listing",
-        b"toggling.log",
-        b"toggling.played",
-    );
+const OVERLAY: ExampleFiles<'static> = ExampleFiles {
+    text: "overlay.rdl",
+    listing: "overlay.listing",
+    log: "overlay.log",
+    played: "overlay.played",
+};
+
+const CLEARING: ExampleFiles<'static> = ExampleFiles {
+    text: "clearing.rdl",
+    listing: "clearing.listing",
+    log: "clearing.log",
+    played: "clearing.played",
+};
+
+const TOGGLING: ExampleFiles<'static> = ExampleFiles {
+    text: "toggling.rdl",
+    listing: "toggling.listing",
+    log: "toggling.log",
+    played: "toggling.played",
+};
+
+fn main(rt: HostRuntime) -> io::Result<()> {
+    let mut out = io::writer(&rt);
+    let mut pack = fs::open(&rt, "replay.pack")?;
+    run_pack(&mut pack, &mut out)?;
+    run_example(&rt, &mut out, b"overlay:", OVERLAY)?;
+    run_example(&rt, &mut out, b"clearing:", CLEARING)?;
+    run_example(&rt, &mut out, b"toggling:", TOGGLING)
 }

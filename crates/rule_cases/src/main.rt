@@ -3,23 +3,32 @@
 #![tactic(auto)]
 
 use case_io::{LONGEST_TEXT, MOST_CASES};
+use std::io;
+use std::io::{Read, Write};
 
 // Runs the next case; answers whether there was one.
-fn run_case(case: u64, room: &mut [u8]) -> bool {
-    let text = case_io::read_text(room);
-    let length = text.length;
+fn run_case<R: Read, W: Write>(
+    input: &mut R,
+    out: &mut W,
+    case: u64,
+    room: &mut [u8],
+) -> io::Result<bool> {
+    let text = case_io::read_text(input, room)?;
     if text.whole {
-        case_io::put_number(b"", case);
-        case_io::put_verdict(rules::first_refusal(&room[..length]));
+        case_io::put_number(out, b"", case)?;
+        case_io::put_verdict(out, rules::first_refusal(&room[..text.length]))?;
     }
-    text.whole
+    Ok(text.whole)
 }
 
-fn main() {
-    let mut space = [0u8; LONGEST_TEXT];
-    let room: &mut [u8] = &mut space;
-    let mut case = 0;
-    while case < MOST_CASES && run_case(case, room) {
-        case += 1;
+fn main(rt: HostRuntime) -> io::Result<()> {
+    let mut room = [0u8; LONGEST_TEXT];
+    let mut input = rt.reader();
+    let mut out = io::writer(&rt);
+    for case in 0..MOST_CASES {
+        if !run_case(&mut input, &mut out, case, &mut room)? {
+            break;
+        }
     }
+    Ok(())
 }

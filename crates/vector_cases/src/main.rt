@@ -3,9 +3,11 @@
 #![tactic(auto)]
 
 use case_io::MOST_CASES;
+use std::io::{Read, Write};
+use std::{fs, io};
 
-// The program's output buffer.
-const OUTPUT: usize = 65536;
+// Room for a text or an answer, and the program's output buffer.
+const ROOM: usize = 65536;
 
 // What a case comes to.
 #[derive(Clone, Copy)]
@@ -15,52 +17,61 @@ enum CaseOutcome {
     NoCase,
 }
 
-fn judge(case: u64, text: &[u8], answer: &[u8]) -> CaseOutcome {
-    let mut output = [0u8; OUTPUT];
+fn judge<W: Write>(out: &mut W, case: u64, text: &[u8], answer: &[u8]) -> io::Result<CaseOutcome> {
+    let mut output = [0u8; ROOM];
     let count = reply::reply(text, &mut output);
-    if chars::same(&output[0..count], answer) {
-        return CaseOutcome::Agrees;
+    let given = &output[..count];
+    if chars::same(given, answer) {
+        return Ok(CaseOutcome::Agrees);
     }
-    case_io::put_number(b"", case);
-    case_io::put(b" got: ");
-    case_io::put(&output[0..count]);
-    CaseOutcome::Differs
+    case_io::put_number(out, b"", case)?;
+    case_io::put(out, b" got: ")?;
+    case_io::put(out, given)?;
+    Ok(CaseOutcome::Differs)
 }
 
-fn run_case(pack: i32, case: u64, text_room: &mut [u8], answer_room: &mut [u8]) -> CaseOutcome {
-    let text_length = case_io::read_length(pack);
-    let answer_length = case_io::read_length(pack);
-    let text = case_io::read_part(pack, text_length, text_room);
-    let answer = case_io::read_part(pack, answer_length, answer_room);
+fn run_case<R: Read, W: Write>(
+    pack: &mut R,
+    out: &mut W,
+    case: u64,
+    text_room: &mut [u8],
+    answer_room: &mut [u8],
+) -> io::Result<CaseOutcome> {
+    let text_length = case_io::read_length(pack)?;
+    let answer_length = case_io::read_length(pack)?;
+    let text = case_io::read_part(pack, text_length, text_room)?;
+    let answer = case_io::read_part(pack, answer_length, answer_room)?;
     if !text.whole || !answer.whole {
-        return CaseOutcome::NoCase;
+        return Ok(CaseOutcome::NoCase);
     }
-    let text_end = text.length;
-    let answer_end = answer.length;
-    judge(case, &text_room[..text_end], &answer_room[..answer_end])
+    judge(
+        out,
+        case,
+        &text_room[..text.length],
+        &answer_room[..answer.length],
+    )
 }
 
-fn report(cases: u64, agreed: u64) {
-    case_io::put_number(b"cases=", cases);
-    case_io::put_number(b" agree=", agreed);
-    case_io::put(b"\n");
+fn report<W: Write>(out: &mut W, cases: u64, agreed: u64) -> io::Result<()> {
+    case_io::put_number(out, b"cases=", cases)?;
+    case_io::put_number(out, b" agree=", agreed)?;
+    case_io::put(out, b"\n")
 }
 
-fn main() {
-    let mut text_space = io::large_buffer();
-    let mut answer_space = io::large_buffer();
-    let text_room: &mut [u8] = &mut text_space;
-    let answer_room: &mut [u8] = &mut answer_space;
-    let pack = os::open_read(b"level-03.pack");
+fn main(rt: HostRuntime) -> io::Result<()> {
+    let mut text_room = [0u8; ROOM];
+    let mut answer_room = [0u8; ROOM];
+    let mut pack = fs::open(&rt, "level-03.pack")?;
+    let mut out = io::writer(&rt);
     let mut cases = 0;
     let mut agreed = 0;
     while cases < MOST_CASES {
-        match run_case(pack, cases, text_room, answer_room) {
+        match run_case(&mut pack, &mut out, cases, &mut text_room, &mut answer_room)? {
             CaseOutcome::Agrees => agreed += 1,
             CaseOutcome::Differs => {}
             CaseOutcome::NoCase => break,
         }
         cases += 1;
     }
-    report(cases, agreed);
+    report(&mut out, cases, agreed)
 }

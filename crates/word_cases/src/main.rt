@@ -4,52 +4,51 @@
 
 use case_io::{LONGEST_TEXT, MOST_CASES, put, put_number};
 use lex::{Cause, Token, Word};
+use std::io;
+use std::io::{Read, Write};
 
 const SHOWN_TOKENS: usize = 12;
 
 // A label, then the bytes of a word.
-fn put_spelling(label: &[u8], spelling: &[u8]) {
-    put(label);
-    put(spelling);
+fn put_spelling<W: Write>(out: &mut W, label: &[u8], spelling: &[u8]) -> io::Result<()> {
+    put(out, label)?;
+    put(out, spelling)
 }
 
-fn show_cause(cause: Cause) {
+fn show_cause<W: Write>(out: &mut W, cause: Cause) -> io::Result<()> {
     match cause {
-        Cause::Unclosed => put(b" bad=unclosed"),
-        Cause::Malformed => put(b" bad=malformed"),
-        Cause::TooWide => put(b" bad=toowide"),
-        Cause::LeftOut => put(b" bad=leftout"),
+        Cause::Unclosed => put(out, b" bad=unclosed"),
+        Cause::Malformed => put(out, b" bad=malformed"),
+        Cause::TooWide => put(out, b" bad=toowide"),
+        Cause::LeftOut => put(out, b" bad=leftout"),
     }
 }
 
-fn show_word(word: Word, spelling: &[u8]) {
+fn show_word<W: Write>(out: &mut W, word: Word, spelling: &[u8]) -> io::Result<()> {
     match word {
-        Word::End => put(b" end"),
-        Word::Name => put(b" name"),
-        Word::Keyword(_) => put_spelling(b" keyword=", spelling),
-        Word::Number(n) => put_number(b" number=", n),
-        Word::String => put(b" string"),
-        Word::Mark(_) => put_spelling(b" mark=", spelling),
-        Word::Bad(cause) => show_cause(cause),
+        Word::End => put(out, b" end"),
+        Word::Name => put(out, b" name"),
+        Word::Keyword(_) => put_spelling(out, b" keyword=", spelling),
+        Word::Number(n) => put_number(out, b" number=", n),
+        Word::String => put(out, b" string"),
+        Word::Mark(_) => put_spelling(out, b" mark=", spelling),
+        Word::Bad(cause) => show_cause(out, cause),
     }
 }
 
 // A token of the text, or a note that it lies outside the text.
-fn show_token(text: &[u8], token: Token) {
+fn show_token<W: Write>(out: &mut W, text: &[u8], token: Token) -> io::Result<()> {
     let start = token.start;
     let end = token.end;
     if end > text.len() {
-        put(b" misplaced");
-        return;
+        return put(out, b" misplaced");
     }
     if start > end {
-        put(b" misplaced");
-        return;
+        return put(out, b" misplaced");
     }
-    let word = token.word;
-    show_word(word, &text[start..end]);
-    put_number(b"@", start as u64);
-    put_number(b"-", end as u64);
+    show_word(out, token.word, &text[start..end])?;
+    put_number(out, b"@", start as u64)?;
+    put_number(out, b"-", end as u64)
 }
 
 // Whether no token is read past this one.
@@ -67,46 +66,52 @@ fn is_last(word: Word) -> bool {
 
 // Shows the first tokens of a text, and answers how many it has up to its end or first bad word. Each but the last has a byte, so
 // the bound on their count is never what ends the loop.
-fn show_tokens(text: &[u8]) -> usize {
+fn show_tokens<W: Write>(out: &mut W, text: &[u8]) -> io::Result<usize> {
     let mut at = 0;
     let mut count = 0;
     while count <= LONGEST_TEXT {
         let token = lex::next_token(text, at);
         if count < SHOWN_TOKENS {
-            show_token(text, token);
+            show_token(out, text, token)?;
         }
         count += 1;
-        let word = token.word;
-        if is_last(word) {
-            return count;
+        if is_last(token.word) {
+            break;
         }
         at = token.end;
     }
-    count
+    Ok(count)
 }
 
-fn show_case(case: u64, text: &[u8]) {
-    put_number(b"", case);
-    let count = show_tokens(text);
-    put_number(b" tokens=", count as u64);
-    case_io::put_verdict(lex::first_refusal(text));
+fn show_case<W: Write>(out: &mut W, case: u64, text: &[u8]) -> io::Result<()> {
+    put_number(out, b"", case)?;
+    let count = show_tokens(out, text)?;
+    put_number(out, b" tokens=", count as u64)?;
+    case_io::put_verdict(out, lex::first_refusal(text))
 }
 
 // Runs the next case; answers whether there was one.
-fn run_case(case: u64, room: &mut [u8]) -> bool {
-    let text = case_io::read_text(room);
-    let length = text.length;
+fn run_case<R: Read, W: Write>(
+    input: &mut R,
+    out: &mut W,
+    case: u64,
+    room: &mut [u8],
+) -> io::Result<bool> {
+    let text = case_io::read_text(input, room)?;
     if text.whole {
-        show_case(case, &room[..length]);
+        show_case(out, case, &room[..text.length])?;
     }
-    text.whole
+    Ok(text.whole)
 }
 
-fn main() {
-    let mut space = [0u8; LONGEST_TEXT];
-    let room: &mut [u8] = &mut space;
-    let mut case = 0;
-    while case < MOST_CASES && run_case(case, room) {
-        case += 1;
+fn main(rt: HostRuntime) -> io::Result<()> {
+    let mut room = [0u8; LONGEST_TEXT];
+    let mut input = rt.reader();
+    let mut out = io::writer(&rt);
+    for case in 0..MOST_CASES {
+        if !run_case(&mut input, &mut out, case, &mut room)? {
+            break;
+        }
     }
+    Ok(())
 }
