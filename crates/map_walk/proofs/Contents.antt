@@ -64,6 +64,8 @@ module _ (m : ℕ) (table : List Definition) (shapes : List Shape) (row : ℕ) (
       by : (c : Component) → GroupOf c a
           → of_group (is_group c) (child_visits (visits_in levels m table shapes) shapes path base (definition_of table row).instances (laid_from m (alignment_of c) shapes bottom (definition_of table row).instances))
           ≡ child_visits (visits_in levels m table shapes) shapes path base (definition_of table row).instances (laid_from m a shapes bottom (definition_of table row).instances)
+      by (component.Field _) x'' = elim x'' [ ]
+      by (component.Register _) x3 = elim x3 [ ]
       by (component.Regfile b) of_regfile = refl
       by (component.Addrmap b n) of_map = refl
 

@@ -1,0 +1,9 @@
+-- A field has its row and its label written and the next row is one further; what is no field writes nothing.
+use Rattle.row_writer.proofs.Runs.{placed_other, placed_field}
+use Rattle.row_writer.proofs.write_placed.Goals as goal
+
+pub returns-in-Other : goal.returns-in-Other
+returns-in-Other c = search placed_other
+
+pub returns-in-Field : goal.returns-in-Field
+returns-in-Field c = search placed_field
