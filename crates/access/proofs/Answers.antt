@@ -6,7 +6,7 @@ use Prim.Native.Nat.{ℕ, zero, suc, ◌/◌, ◌<◌, ◌≤◌}
 use native.Mathlib.Omega.{arith}
 use lib.ListN.{length, drop}
 use borrow.Author.Tests.{lt-ltb, le-ltb, ltb-false}
-use Rattle.basics.specs.Choice.{if◌then◌else◌}
+use Rattle.std.specs.Prelude.{if◌then◌else◌}
 use Rattle.basics.specs.Limits.{register_limit, field_limit, register_row_width, field_row_width}
 use Rattle.chars.proofs.Laws.{and_left}
 use Rattle.fields.specs.Codes.{is_width}

@@ -4,7 +4,7 @@
 ghost use Rattle.std.specs.Prelude.{◌≡◌, ◌++◌, ◌+◌, ◌/◌, ◌≤◌, ◌<◌, length, drop};
 ghost use Rattle.bits.specs.Bits.{number};
 ghost use Rattle.rows.specs.Rows.{tables};
-ghost use Rattle.basics.specs.Choice.{if◌then◌else◌};
+ghost use Rattle.std.specs.Prelude.{if◌then◌else◌};
 ghost use Rattle.basics.specs.Limits.{register_limit, field_limit, register_row_width, field_row_width};
 ghost use Rattle.model.specs.Model.{width_of, stepped, gives, bits_of, word_from, access_numbers, numbers_with};
 ghost use Rattle.model.specs.Repeats.{repeats};

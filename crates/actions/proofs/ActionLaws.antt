@@ -6,7 +6,7 @@ use Prim.Native.Nat.{ℕ}
 use native.Mathlib.Omega.{arith}
 use lib.Dec.{eqb}
 use borrow.Author.Tests.{eqb-true, ne_eqb}
-use Rattle.basics.specs.Choice.{if◌then◌else◌}
+use Rattle.std.specs.Prelude.{if◌then◌else◌}
 use Rattle.fields.specs.Codes.{read_code, write_code}
 use Rattle.fields.specs.declared.ReadEffect.TheVariants as onread
 use Rattle.fields.specs.declared.WriteEffect.TheVariants as onwrite

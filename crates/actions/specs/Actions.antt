@@ -1,6 +1,6 @@
 -- What an access does to one stored bit: "kept, cleared, set, inverted" (document 01, "Reading and writing").
 use Rattle.std.specs.Prelude.{Bool, true, false, not, ℕ, eqb}
-use Rattle.basics.specs.Choice.{if◌then◌else◌}
+use Rattle.std.specs.Prelude.{if◌then◌else◌}
 use Rattle.fields.specs.Codes.{read_code, write_code}
 use Rattle.fields.specs.declared.ReadEffect.TheVariants as onread
 use Rattle.fields.specs.declared.WriteEffect.TheVariants as onwrite

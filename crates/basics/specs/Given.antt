@@ -1,6 +1,6 @@
 -- A number that may be given.
 use Rattle.std.specs.Prelude.{Bool, true, false, ℕ, eqb}
-use Rattle.basics.specs.Choice.{if◌then◌else◌}
+use Rattle.std.specs.Prelude.{if◌then◌else◌}
 use Rattle.basics.specs.declared.Given.{Given}
 use Rattle.basics.specs.declared.Given.TheVariants.{Nothing, Number}
 

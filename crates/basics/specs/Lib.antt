@@ -1,4 +1,3 @@
-pub mod Choice
 pub mod Given
 pub mod Judged
 pub mod Slices

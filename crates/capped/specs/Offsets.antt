@@ -1,7 +1,7 @@
 -- Sizes and offsets are whole numbers (document 01, "Addresses": "no wrap may show"). The code keeps each cut at a cap above every
 -- address; that is enough, since each operation on cut numbers, cut again, is the operation on the true ones, cut.
 use Rattle.std.specs.Prelude.{ℕ, zero, suc, ◌+◌, ◌-◌, ◌*◌, ◌/◌, ◌%◌, ◌^◌, eqb, leb, ltb}
-use Rattle.basics.specs.Choice.{if◌then◌else◌}
+use Rattle.std.specs.Prelude.{if◌then◌else◌}
 
 abbrev pub cap : ℕ
 cap = 2 ^ 40

@@ -3,7 +3,7 @@
 -- A row: 0 the kind, 1 to 6 the component's values, 7 and 8 the first of its instances and how many, 9 and 10 its name, 11 the type
 -- declared before it.
 use Rattle.std.specs.Prelude.{List, [], ◌∷◌, ℕ, zero, suc, ◌+◌, ◌*◌, ◌/◌, ◌%◌, eqb, ltb, set}
-use Rattle.basics.specs.Choice.{if◌then◌else◌}
+use Rattle.std.specs.Prelude.{if◌then◌else◌}
 use Rattle.basics.specs.Limits.{definition_limit}
 use Rattle.parts.specs.declared.Kind.{Kind}
 use Rattle.parts.specs.declared.Kind.TheVariants as kind

@@ -1,6 +1,6 @@
 -- What the cells decode to, whatever they hold: the types from a row down, and the instance of a cell.
 use Rattle.std.specs.Prelude.{List, [], ◌∷◌, ℕ, zero, suc, ◌-◌, ltb}
-use Rattle.basics.specs.Choice.{if◌then◌else◌}
+use Rattle.std.specs.Prelude.{if◌then◌else◌}
 use Rattle.parts.specs.Reading.{Parsed, ok, stop as refused}
 use Rattle.parts.specs.Parts.{instance_at}
 use Rattle.parts.specs.declared.Instance.{Instance}

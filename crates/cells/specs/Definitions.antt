@@ -1,6 +1,6 @@
 -- What a text's definitions mean, in the order of their closing braces: an instance names its type by the number of its definition.
 use Rattle.std.specs.Prelude.{List, [], ◌∷◌, map, ℕ, get_or}
-use Rattle.basics.specs.Choice.{if◌then◌else◌}
+use Rattle.std.specs.Prelude.{if◌then◌else◌}
 use Rattle.parts.specs.declared.Name.{Name}
 use Rattle.parts.specs.declared.DefinedName.{DefinedName}
 use Rattle.parts.specs.declared.DefinedName.TheVariants.{Unnamed, Named}

@@ -1,6 +1,6 @@
 -- Runs of bytes of one class.
 use Rattle.std.specs.Prelude.{Bool, true, ◌&&◌, List, [], ◌∷◌, ℕ, ◌+◌, length, drop}
-use Rattle.basics.specs.Choice.{if◌then◌else◌}
+use Rattle.std.specs.Prelude.{if◌then◌else◌}
 
 -- the longest start of `s` whose bytes are all in the class `P`
 unfoldable pub run : (ℕ → Bool) → List ℕ → List ℕ

@@ -1,6 +1,6 @@
 -- What the cells of a body's instances decode to at its closing brace, whatever they hold: the fields of a register, and what is judged.
 use Rattle.std.specs.Prelude.{Bool, true, false, ◌||◌, List, [], ℕ, zero, suc, ◌-◌, eqb}
-use Rattle.basics.specs.Choice.{if◌then◌else◌}
+use Rattle.std.specs.Prelude.{if◌then◌else◌}
 use Rattle.parts.specs.declared.Kind.TheVariants as kind
 use Rattle.parts.specs.declared.Instance.{Instance}
 use Rattle.suffixes.specs.Suffixes.{instance_fault}

@@ -1,6 +1,6 @@
 -- What is judged at a closing brace: 10 for a missing instance, 12 for a field, 13 to 17 for a register.
 use Rattle.std.specs.Prelude.{Bool, true, false, ◌||◌, List, [], ◌∷◌, ℕ, suc, ltb}
-use Rattle.basics.specs.Choice.{if◌then◌else◌}
+use Rattle.std.specs.Prelude.{if◌then◌else◌}
 use Rattle.fields.specs.Fields.{breaks, has_unusable_effect}
 use Rattle.components.specs.Fields.{field_at}
 use Rattle.fields.specs.declared.BitPlace.{BitPlace}

@@ -10,7 +10,7 @@ use lib.ListN.{length, set, take, drop, length-set, take-append-drop}
 use lib.Seq.{take-suc-set, drop-set-lt}
 use borrow.Author.Tests.{ltb-true, ltb-false, le-leb, lt-leb}
 use Rattle.basics.specs.Limits.{register_row_width, field_row_width, name_width, path_row_width}
-use Rattle.basics.specs.Choice.{if◌then◌else◌}
+use Rattle.std.specs.Prelude.{if◌then◌else◌}
 use Rattle.basics.specs.Judged.{Judged, fine}
 use Rattle.basics.specs.Slices.{written}
 use Rattle.map_walk.specs.declared.Counts.{Counts}

@@ -6,7 +6,7 @@ use Prim.Native.Nat.{ℕ, ◌<◌, ◌≤◌}
 use native.Mathlib.Omega.{arith}
 use lib.ListN.{length}
 use Rattle.basics.specs.Limits.{definition_limit, register_limit, field_limit}
-use Rattle.basics.specs.Choice.{if◌then◌else◌}
+use Rattle.std.specs.Prelude.{if◌then◌else◌}
 use Rattle.lex.specs.Words.{words_verdict}
 use Rattle.lex.specs.declared.Verdict.{Verdict}
 use Rattle.lex.specs.declared.Verdict.TheVariants as verdict

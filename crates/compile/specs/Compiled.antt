@@ -1,6 +1,6 @@
 -- The compiler on one page: the refusals 1 to 22 in document 01's order, and the rows of an accepted text.
 use Rattle.std.specs.Prelude.{Bool, ◌||◌, List, [], ◌∷◌, ◌++◌, ℕ, ltb, length, drop}
-use Rattle.basics.specs.Choice.{if◌then◌else◌}
+use Rattle.std.specs.Prelude.{if◌then◌else◌}
 use Rattle.basics.specs.Judged.{Judged, fault, fine, onward, found}
 use Rattle.cells.specs.Definitions.{definition_of}
 use Rattle.rules.specs.Judge.{Meaning}

@@ -7,7 +7,7 @@ use native.Mathlib.Omega.{arith}
 use lib.Dec.{ltb}
 use lib.ListN.{length}
 use borrow.Author.Tests.{ltb-false}
-use Rattle.basics.specs.Choice.{if◌then◌else◌}
+use Rattle.std.specs.Prelude.{if◌then◌else◌}
 use Rattle.chars.proofs.Laws.{either, or_left, or_right}
 use Rattle.components.proofs.Laws.{pass_test, pass_on}
 use Rattle.parts.specs.declared.Kind.{Kind}

@@ -1,6 +1,6 @@
 -- Which bits of a register are closed to a field, because earlier fields have them.
 use Rattle.std.specs.Prelude.{Bool, false, ◌||◌, ◌&&◌, not, ℕ, zero, suc, eqb, leb, ltb}
-use Rattle.basics.specs.Choice.{if◌then◌else◌}
+use Rattle.std.specs.Prelude.{if◌then◌else◌}
 use Rattle.fields.specs.Codes.{access_code}
 use Rattle.fields.specs.declared.AccessRight.TheVariants as access
 use Rattle.fields.specs.Fields.{is_read_write_pair}

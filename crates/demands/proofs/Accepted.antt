@@ -6,7 +6,7 @@ use Prim.Native.Nat.{ℕ, ◌*◌}
 use lib.ListN.{length, take, drop}
 use lib.Seq.{take_at}
 use native.Mathlib.Omega.{arith}
-use Rattle.basics.specs.Choice.{if◌then◌else◌}
+use Rattle.std.specs.Prelude.{if◌then◌else◌}
 use Rattle.basics.specs.Judged.{Judged, fault, fine}
 use Rattle.basics.specs.Limits.{register_row_width, field_row_width, name_width, path_row_width}
 use Rattle.rows.specs.Rows.{Map, Tables, register_table, path_table, field_table, label_table, tables_of}

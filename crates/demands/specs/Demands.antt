@@ -1,7 +1,7 @@
 -- The third demand, clause by clause, of the rows in four tables. `answers_of` and `store_after_all` are what the contract of `perform` gives for
 -- a list of calls, `store_after` and `answer_of` for one.
 use Rattle.std.specs.Prelude.{◌≡◌, true, ◌↔◌, List, ◌++◌, ℕ, ◌*◌, take}
-use Rattle.basics.specs.Choice.{if◌then◌else◌}
+use Rattle.std.specs.Prelude.{if◌then◌else◌}
 use Rattle.basics.specs.Judged.{fine}
 use Rattle.basics.specs.Limits.{register_row_width, field_row_width, name_width, path_row_width}
 use Rattle.fields.specs.declared.Offset.{Offset}

@@ -1,7 +1,7 @@
 -- The grammar of constant expressions (document 02, item 1), as readers of the text at a cursor. The loop over one row's operators
 -- takes a number of turns; one more than the text has bytes is enough, since each turn moves the cursor on.
 use Rattle.std.specs.Prelude.{List, ℕ, zero, suc, length}
-use Rattle.basics.specs.Choice.{if◌then◌else◌}
+use Rattle.std.specs.Prelude.{if◌then◌else◌}
 use Rattle.lex.specs.Token.{token_at}
 use Rattle.lex.specs.declared.Token.{Token}
 use Rattle.operators.specs.declared.Operator.{Operator}

@@ -1,6 +1,6 @@
 -- What a word may be in an expression (document 02, item 1).
 use Rattle.std.specs.Prelude.{Bool, true, false, ℕ, eqb}
-use Rattle.basics.specs.Choice.{if◌then◌else◌}
+use Rattle.std.specs.Prelude.{if◌then◌else◌}
 use Rattle.vocabulary.specs.declared.Mark.{Mark}
 use Rattle.vocabulary.specs.declared.Mark.TheVariants as mark
 use Rattle.lex.specs.declared.Word.{Word}

@@ -1,6 +1,6 @@
 -- Addresses (document 01, "Addresses"): where the instances of a body lie, and how large a definition is, in whole numbers.
 use Rattle.std.specs.Prelude.{◌&&◌, List, [], ◌∷◌, ◌++◌, ℕ, ◌+◌, ◌-◌, ◌*◌, ◌/◌, eqb, get_or}
-use Rattle.basics.specs.Choice.{if◌then◌else◌}
+use Rattle.std.specs.Prelude.{if◌then◌else◌}
 use Rattle.parts.specs.declared.Array.{Array}
 use Rattle.parts.specs.declared.Array.TheVariants as array
 use Rattle.parts.specs.declared.Suffix.{Suffix}

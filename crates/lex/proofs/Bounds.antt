@@ -7,7 +7,7 @@ use native.Mathlib.Omega.{arith}
 use lib.Dec.{ltb, eqb}
 use lib.ListN.{length, take, drop, drop_of_length-le, length-drop, length-take}
 use borrow.Author.Tests.{ltb-true, ltb-false}
-use Rattle.basics.specs.Choice.{if◌then◌else◌}
+use Rattle.std.specs.Prelude.{if◌then◌else◌}
 use Rattle.chars.specs.Ascii.{is_blank, is_line_end, is_letter, is_name_byte, is_number_byte, is_digit}
 use Rattle.chars.specs.Run.{run}
 use Rattle.chars.specs.declared.Radix.TheVariants.{Decimal}

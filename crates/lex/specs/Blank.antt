@@ -1,7 +1,7 @@
 -- Blanks (document 01, "Words"): space, tab, CR, LF and both comment kinds.
 use Rattle.std.specs.Prelude.{List, [], ◌∷◌, ℕ, ◌+◌, eqb, drop}
 use Prim.Native.Char.{code}
-use Rattle.basics.specs.Choice.{if◌then◌else◌}
+use Rattle.std.specs.Prelude.{if◌then◌else◌}
 use Rattle.chars.specs.Ascii.{is_blank, is_line_end}
 use Rattle.lex.specs.declared.Next.{Next}
 use Rattle.lex.specs.declared.Next.TheVariants.{At, Unclosed}

@@ -1,6 +1,6 @@
 -- The end of a string (document 01, "Words"): "to the next quote not behind a backslash".
 use Rattle.std.specs.Prelude.{Bool, ◌&&◌, not, List, [], ◌∷◌, ℕ, ◌+◌, eqb, drop}
-use Rattle.basics.specs.Choice.{if◌then◌else◌}
+use Rattle.std.specs.Prelude.{if◌then◌else◌}
 use Rattle.lex.specs.declared.Next.{Next}
 use Rattle.lex.specs.declared.Next.TheVariants.{At, Unclosed}
 

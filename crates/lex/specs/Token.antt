@@ -1,6 +1,6 @@
 -- Tokens: document 01's words, with their places.
 use Rattle.std.specs.Prelude.{List, [], ◌∷◌, ℕ, ◌+◌, ◌-◌, ltb, eqb, length, take, drop}
-use Rattle.basics.specs.Choice.{if◌then◌else◌}
+use Rattle.std.specs.Prelude.{if◌then◌else◌}
 use Rattle.chars.specs.Ascii.{is_letter, is_name_byte, is_number_byte, is_digit}
 use Rattle.chars.specs.Run.{run}
 use Rattle.chars.specs.declared.Radix.TheVariants.{Decimal}

@@ -1,6 +1,6 @@
 -- The first refusal of a text by 1, 2 and 4 (document 01, "Refusal numbers").
 use Rattle.std.specs.Prelude.{List, [], ◌∷◌, ℕ, zero, suc, ◌+◌, ltb, length}
-use Rattle.basics.specs.Choice.{if◌then◌else◌}
+use Rattle.std.specs.Prelude.{if◌then◌else◌}
 use Rattle.basics.specs.Limits.{text_limit}
 use Rattle.lex.specs.Token.{token_at}
 use Rattle.lex.specs.declared.Token.{Token}

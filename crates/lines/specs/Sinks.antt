@@ -1,6 +1,6 @@
 -- Bytes poured into an output, one after another, as far as there is room.
 use Rattle.std.specs.Prelude.{◌≡◌, Bool, true, false, ◌||◌, List, [], ◌∷◌, ℕ, suc, leb, set}
-use Rattle.basics.specs.Choice.{if◌then◌else◌}
+use Rattle.std.specs.Prelude.{if◌then◌else◌}
 use Rattle.lines.specs.declared.Sink.{Sink}
 
 abbrev pub is_full : ℕ → Sink → Bool

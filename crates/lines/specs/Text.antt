@@ -2,7 +2,7 @@
 use Rattle.std.specs.Prelude.{List, [], ◌∷◌, ◌++◌, ℕ, zero, suc, ◌+◌, ◌-◌, ◌/◌, ◌%◌, eqb, ltb}
 use Prim.Native.Char.{code}
 use Rattle.chars.specs.Ascii.{bytes}
-use Rattle.basics.specs.Choice.{if◌then◌else◌}
+use Rattle.std.specs.Prelude.{if◌then◌else◌}
 use Rattle.fields.specs.Codes.{access_code, read_code, write_code}
 use Rattle.fields.specs.declared.AccessRight.TheVariants as access
 use Rattle.fields.specs.declared.ReadEffect.TheVariants as onread

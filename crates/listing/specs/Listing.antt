@@ -1,7 +1,7 @@
 -- The listing (document 01, "The listing"): "Key=value lines in a fixed order, LF after each".
 use Rattle.std.specs.Prelude.{not, List, [], ◌∷◌, ◌++◌, ℕ, ltb, length, drop}
 use Rattle.chars.specs.Ascii.{bytes}
-use Rattle.basics.specs.Choice.{if◌then◌else◌}
+use Rattle.std.specs.Prelude.{if◌then◌else◌}
 use Rattle.basics.specs.declared.Given.{Given}
 use Rattle.basics.specs.declared.Given.TheVariants.{Nothing, Number}
 use Rattle.fields.specs.declared.Offset.{Offset}

@@ -3,7 +3,7 @@
 -- `#` are skipped." A line is read byte by byte, so that it is the same however the log is cut.
 use Rattle.std.specs.Prelude.{Bool, true, false, not, List, [], ◌∷◌, ℕ, suc, ◌-◌, ◌^◌, eqb, ltb, get_or}
 use Prim.Native.Char.{code}
-use Rattle.basics.specs.Choice.{if◌then◌else◌}
+use Rattle.std.specs.Prelude.{if◌then◌else◌}
 use Rattle.chars.specs.Ascii.{bytes, is_digit}
 use Rattle.chars.specs.declared.Radix.{Radix}
 use Rattle.chars.specs.declared.Radix.TheVariants.{Decimal, Hex}

@@ -1,6 +1,6 @@
 -- One run over a map's elements, as the code makes it: 18 ends it, the first 19 and the first 20 are kept, and registers are logged.
 use Rattle.std.specs.Prelude.{Bool, ◌||◌, List, [], ◌∷◌, map, ℕ, suc, ◌+◌, ◌*◌, ltb, length}
-use Rattle.basics.specs.Choice.{if◌then◌else◌}
+use Rattle.std.specs.Prelude.{if◌then◌else◌}
 use Rattle.basics.specs.Judged.{first_of, Judged, fine, unless}
 use Rattle.basics.specs.declared.Fault.TheVariants.{None}
 use Rattle.basics.specs.Slices.{written}

@@ -1,6 +1,6 @@
 -- What the functions of the walk are asked for, and what they answer.
 use Rattle.std.specs.Prelude.{◌≡◌, false, ◌&&◌, ◌||◌, not, List, [], ◌∷◌, ◌++◌, ℕ, suc, ◌+◌, ◌*◌, ◌%◌, ◌<◌, ◌≤◌, eqb, ltb, length, get_or}
-use Rattle.basics.specs.Choice.{if◌then◌else◌}
+use Rattle.std.specs.Prelude.{if◌then◌else◌}
 use Rattle.parts.specs.declared.Instance.{Instance}
 use Rattle.basics.specs.Judged.{first_of, fault, fine}
 use Rattle.suffixes.specs.Suffixes.{is_array}

@@ -9,7 +9,7 @@ use native.Mathlib.Omega.{arith}
 use lib.ListN.{length, get_or, replicate}
 use lib.Dec.{eqb, leb, ltb}
 use borrow.Author.Tests.{eqb-true, eqb-false, eq-eqb}
-use Rattle.basics.specs.Choice.{if◌then◌else◌}
+use Rattle.std.specs.Prelude.{if◌then◌else◌}
 use Rattle.chars.proofs.Laws.{and_left, and_right, and_both, or_left, or_right}
 use Rattle.fields.specs.Codes.{read_code, write_code}
 use Rattle.fields.specs.declared.ReadEffect.TheVariants as onread

@@ -1,6 +1,6 @@
 -- Lists of accesses: the table of actions, the store and the answers (document 01, "Demand 3").
 use Rattle.std.specs.Prelude.{◌≡◌, Bool, true, List, [], ◌∷◌, ◌++◌, ℕ, ◌<◌, eqb, length, drop, get_or}
-use Rattle.basics.specs.Choice.{if◌then◌else◌}
+use Rattle.std.specs.Prelude.{if◌then◌else◌}
 use Rattle.actions.specs.declared.Action.{Action}
 use Rattle.actions.specs.declared.Action.TheVariants.{Kept}
 use Rattle.actions.specs.Actions.{followed_by, apply}

@@ -2,7 +2,7 @@
 -- how many bits each number of the store has, and the field rows, each a view of one of these numbers. Document 01's rows show a number of
 -- their own each (access/specs/Stored.antt); nothing here asks for that, so that several rows may show one number.
 use Rattle.std.specs.Prelude.{◌≡◌, Bool, true, false, ◌&&◌, ◌||◌, List, [], ◌∷◌, ℕ, zero, suc, ◌+◌, ◌*◌, ◌-◌, ◌/◌, ◌%◌, ◌^◌, ◌<◌, eqb, leb, ltb, length, get_or, set}
-use Rattle.basics.specs.Choice.{if◌then◌else◌}
+use Rattle.std.specs.Prelude.{if◌then◌else◌}
 use Rattle.fields.specs.Codes.{is_width}
 use Rattle.basics.specs.declared.Given.TheVariants.{Nothing}
 use Rattle.fields.specs.declared.BitPlace.{BitPlace}

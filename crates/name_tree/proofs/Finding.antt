@@ -6,7 +6,7 @@ use Prim.Native.Nat.{ℕ, zero, suc, ◌+◌, ◌<◌, ◌≤◌}
 use native.Mathlib.Omega.{arith}
 use lib.Dec.{eqb, leb}
 use borrow.Author.Tests.{eqb-true, eqb-false, leb-true, leb-false}
-use Rattle.basics.specs.Choice.{if◌then◌else◌}
+use Rattle.std.specs.Prelude.{if◌then◌else◌}
 use Rattle.basics.specs.Slices.{cell_of}
 use Rattle.chars.proofs.Laws.{differ}
 use Rattle.name_tree.specs.Tree.{goes_right, is_entry_named, below, Meets, meets_here, meets-below, seek_from, seek}

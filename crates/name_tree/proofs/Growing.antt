@@ -8,7 +8,7 @@ use lib.Dec.{ltb, eqb}
 use lib.ListN.{length, set, length-set}
 use lib.Seq.{get_or-set_same, get_or-set_other}
 use borrow.Author.Tests.{ltb-true, ltb-false, lt-ltb, eqb-true, eqb-false}
-use Rattle.basics.specs.Choice.{if◌then◌else◌}
+use Rattle.std.specs.Prelude.{if◌then◌else◌}
 use Rattle.basics.specs.Slices.{cell_of}
 use Rattle.cells.specs.Cells.{link_bound, entry_of, place_in, row_in, left_in, right_in}
 use Rattle.cells.proofs.Laws.{entry_place, entry_row, entry_left, entry_right, place_low, row_low}

@@ -1,7 +1,7 @@
 -- The instances of an open body as a tree over their names. The first is the root; each has a link to the left and one to the right, the
 -- numbers of later instances of the body. A name goes down from the root, at each depth to the side that its own bits say.
 use Rattle.std.specs.Prelude.{◌≡◌, Bool, true, false, ◌&&◌, List, ℕ, zero, suc, ◌+◌, ◌-◌, ◌/◌, ◌%◌, ◌<◌, eqb, ltb, leb, length, set, get_or}
-use Rattle.basics.specs.Choice.{if◌then◌else◌}
+use Rattle.std.specs.Prelude.{if◌then◌else◌}
 use Rattle.basics.specs.Slices.{cell_of}
 use Rattle.chars.specs.Same.{same_bytes}
 use Rattle.parts.specs.Reading.{Parsed, ok, stop as refused}

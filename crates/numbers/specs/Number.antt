@@ -1,7 +1,7 @@
 -- Numbers (document 01, "Words"): decimal, `0x` or `0X` hex, or width `'b` `'d` `'h` digits.
 use Rattle.std.specs.Prelude.{Bool, false, ◌||◌, ◌&&◌, List, [], ◌∷◌, ℕ, ◌+◌, ◌-◌, ◌*◌, ◌^◌, eqb, leb, ltb, length, take, drop, get_or}
 use Prim.Native.Char.{code}
-use Rattle.basics.specs.Choice.{if◌then◌else◌}
+use Rattle.std.specs.Prelude.{if◌then◌else◌}
 use Rattle.chars.specs.Ascii.{is_within, is_digit, is_spaced_digit}
 use Rattle.chars.specs.Run.{run, every}
 use Rattle.chars.specs.declared.Radix.{Radix}

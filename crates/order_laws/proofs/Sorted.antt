@@ -9,7 +9,7 @@ use lib.Dec.{ltb}
 use lib.ListN.{length, drop}
 use borrow.Author.Tests.{ltb-true, ltb-false}
 use Rattle.basics.specs.All.{In, in_here, in_later}
-use Rattle.basics.specs.Choice.{if◌then◌else◌}
+use Rattle.std.specs.Prelude.{if◌then◌else◌}
 use Rattle.chars.proofs.Laws.{either, and_right}
 use Rattle.lex.specs.Blank.{next_from}
 use Rattle.lex.specs.Token.{token_past, token_at}

@@ -3,7 +3,7 @@
 -- (proofs/Smallest; of the compiler, compile_laws/proofs/Firsts).
 use Rattle.std.specs.Prelude.{Bool, true, false, ◌||◌, ◌&&◌, not, List, [], ◌∷◌, ◌++◌, map, ◌⊎◌, ◌≡◌, ℕ, ◌+◌, ◌<◌, ◌≤◌, leb, ltb}
 use Rattle.basics.specs.All.{In}
-use Rattle.basics.specs.Choice.{if◌then◌else◌}
+use Rattle.std.specs.Prelude.{if◌then◌else◌}
 use Rattle.vocabulary.specs.Vocabulary.{property_of}
 use Rattle.vocabulary.specs.declared.Property.{Property}
 use Rattle.vocabulary.specs.declared.PropertyLookup.{PropertyLookup}

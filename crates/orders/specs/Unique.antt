@@ -1,6 +1,6 @@
 -- Which items meet an earlier one, by pairs: over any relation, equality or a clash.
 use Rattle.std.specs.Prelude.{◌≡◌, Bool, true, false, ℕ, zero, suc, ◌+◌, ◌<◌, ◌≤◌, eqb}
-use Rattle.basics.specs.Choice.{if◌then◌else◌}
+use Rattle.std.specs.Prelude.{if◌then◌else◌}
 use Rattle.orders.specs.declared.Bounds.{Bounds}
 
 -- some of the first k items meets item j

@@ -1,6 +1,6 @@
 -- What the pass in the order of the addresses is asked for, and what it keeps.
 use Rattle.std.specs.Prelude.{◌≡◌, Bool, true, false, ◌||◌, ◌&&◌, not, List, ℕ, ◌+◌, ◌*◌, ◌<◌, ◌≤◌, ltb, length}
-use Rattle.basics.specs.Choice.{if◌then◌else◌}
+use Rattle.std.specs.Prelude.{if◌then◌else◌}
 use Rattle.basics.specs.Slices.{cell_of}
 use Rattle.basics.specs.Limits.{register_limit, address_end}
 use Rattle.fields.specs.Codes.{access_code}

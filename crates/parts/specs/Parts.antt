@@ -1,6 +1,6 @@
 -- The parts of sentences (document 01, "Sentences"), each as a reader of the text at a cursor.
 use Rattle.std.specs.Prelude.{Bool, true, false, ◌&&◌, List, ℕ}
-use Rattle.basics.specs.Choice.{if◌then◌else◌}
+use Rattle.std.specs.Prelude.{if◌then◌else◌}
 use Rattle.lex.specs.Token.{token_at}
 use Rattle.lex.specs.declared.Token.{Token}
 use Rattle.lex.specs.declared.Word.{Word}

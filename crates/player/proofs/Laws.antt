@@ -9,7 +9,7 @@ use lib.Dec.{eqb, ltb}
 use lib.ListN.{length, length-append}
 use borrow.Author.Tests.{ne_eqb}
 use Rattle.basics.specs.All.{all_none, all_more}
-use Rattle.basics.specs.Choice.{if◌then◌else◌}
+use Rattle.std.specs.Prelude.{if◌then◌else◌}
 use Rattle.chars.specs.Ascii.{bytes}
 use Rattle.chars.proofs.Laws.{either}
 use Rattle.lines.specs.Text.{digits, digit_byte, decimal, hex}

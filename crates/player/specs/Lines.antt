@@ -1,7 +1,7 @@
 -- A log by its parts, by its lines and by its accesses: what the laws of playing a log (proofs/Laws.antt) speak of.
 use Rattle.std.specs.Prelude.{Bool, not, ◌≡◌, List, [], ◌∷◌, ◌++◌, ℕ, eqb}
 use Rattle.basics.specs.All.{All}
-use Rattle.basics.specs.Choice.{if◌then◌else◌}
+use Rattle.std.specs.Prelude.{if◌then◌else◌}
 use Rattle.rows.specs.Rows.{Tables}
 use Rattle.model.specs.declared.Access.{Access}
 use Rattle.model.specs.declared.Answer.{Answer}

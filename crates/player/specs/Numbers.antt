@@ -1,6 +1,6 @@
 -- "then for each stored field its number, `heron.tally.count=0x0` (path, dot, field name; hex as in the listing)".
 use Rattle.std.specs.Prelude.{Bool, not, ◌&&◌, List, [], ◌∷◌, ◌++◌, ℕ, zero, suc, ◌+◌, ◌*◌, leb, ltb, length}
-use Rattle.basics.specs.Choice.{if◌then◌else◌}
+use Rattle.std.specs.Prelude.{if◌then◌else◌}
 use Rattle.basics.specs.Limits.{nest_limit, register_limit, field_limit, name_width}
 use Rattle.basics.specs.Slices.{cell_of}
 use Rattle.chars.specs.Ascii.{bytes}

@@ -1,6 +1,6 @@
 -- What is written as a log is played, and the store that it leaves: "for each line of the log, one line".
 use Rattle.std.specs.Prelude.{Bool, true, false, not, List, [], ◌∷◌, ◌++◌, ℕ, eqb}
-use Rattle.basics.specs.Choice.{if◌then◌else◌}
+use Rattle.std.specs.Prelude.{if◌then◌else◌}
 use Rattle.chars.specs.Ascii.{bytes}
 use Rattle.lines.specs.Text.{decimal, hex}
 use Rattle.rows.specs.Rows.{Tables}

@@ -1,6 +1,6 @@
 -- Property statements (document 01, "Names, properties, fields"): where a property may stand (7), which property it sets, and to what (9).
 use Rattle.std.specs.Prelude.{Bool, true, false, ◌||◌, not, List, [], ◌∷◌, ℕ, zero, suc, ◌^◌, eqb}
-use Rattle.basics.specs.Choice.{if◌then◌else◌}
+use Rattle.std.specs.Prelude.{if◌then◌else◌}
 use Rattle.vocabulary.specs.declared.Property.{Property}
 use Rattle.vocabulary.specs.declared.Property.TheVariants as property
 use Rattle.parts.specs.declared.Kind.{Kind}

@@ -1,7 +1,7 @@
 -- An instance in 32 cells: 0 and 1 its name's start and end; from 2 and 7 on its array, kept as two suffixes; from 12, 17, 22 and 27 on its
 -- reset, address, stride and alignment. A suffix takes five cells.
 use Rattle.std.specs.Prelude.{List, [], ◌∷◌, ℕ, ◌+◌, eqb}
-use Rattle.basics.specs.Choice.{if◌then◌else◌}
+use Rattle.std.specs.Prelude.{if◌then◌else◌}
 use Rattle.basics.specs.Slices.{cell_of}
 use Rattle.expressions.specs.declared.Refusal.{Refusal}
 use Rattle.expressions.specs.declared.Refusal.TheVariants.{Nowhere, AtOperator}

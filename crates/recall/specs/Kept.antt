@@ -1,7 +1,7 @@
 -- Which instances are kept: those that are long in the text, each on the shelf of its place. It is a matter of speed: whatever is kept is
 -- what the text gives (proofs/Kept, `Long-Kept`), and nothing else stands on which they are.
 use Rattle.std.specs.Prelude.{Bool, ◌&&◌, List, ℕ, zero, suc, ◌+◌, ◌/◌, ◌%◌, eqb, leb, ltb, length, set}
-use Rattle.basics.specs.Choice.{if◌then◌else◌}
+use Rattle.std.specs.Prelude.{if◌then◌else◌}
 use Rattle.basics.specs.Slices.{cell_of, written}
 use Rattle.lex.specs.Token.{token_at}
 use Rattle.parts.specs.Reading.{Parsed, ok, stop}

@@ -224,6 +224,7 @@ fn put_instance(shapes: &mut [u64], at: usize, instance: Instance)
 
 // How many bytes make an instance long: a text's share for one shelf, so that no two long ones meet on a shelf. This and the choice of the
 // shelf are a matter of speed.
+#[tactic(auto, unfolding(crate::specs::Kept::reach_of))]
 fn reach(length: usize) -> usize
     ensures { result ≡ reach_of length }
 {

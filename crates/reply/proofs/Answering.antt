@@ -8,7 +8,7 @@ use lib.Dec.{ltb}
 use lib.ListN.{length, get_or, take, drop, length-append, replicate, length-replicate}
 use lib.Seq.{take_at}
 use borrow.Author.Tests.{le-ltb}
-use Rattle.basics.specs.Choice.{if◌then◌else◌}
+use Rattle.std.specs.Prelude.{if◌then◌else◌}
 use Rattle.lex.specs.declared.Place.{Place}
 use Rattle.basics.specs.Judged.{Judged, fault, fine}
 use Rattle.basics.specs.Limits.{register_limit, field_limit, register_row_width, field_row_width, name_width, path_row_width}

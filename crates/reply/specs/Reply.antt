@@ -1,7 +1,7 @@
 -- What the program answers: "its listing, or one line such as `refused=10 at=0`; .. a longer listing is 22".
 use Rattle.std.specs.Prelude.{◌≡◌, List, [], ◌∷◌, ◌++◌, ℕ, ltb, length, take}
 use Rattle.chars.specs.Ascii.{bytes}
-use Rattle.basics.specs.Choice.{if◌then◌else◌}
+use Rattle.std.specs.Prelude.{if◌then◌else◌}
 use Rattle.basics.specs.Judged.{Judged, fault, fine}
 use Rattle.rows.specs.Rows.{Map}
 use Rattle.lines.specs.Text.{decimal}

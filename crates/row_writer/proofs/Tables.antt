@@ -9,7 +9,7 @@ use lib.ListN.{length, drop, drop_of_length-le}
 use lib.Seq.{drop-cons}
 use borrow.Author.Tests.{ltb-false}
 use Rattle.register_log.specs.Log.{log_width, head_row}
-use Rattle.basics.specs.Choice.{if◌then◌else◌}
+use Rattle.std.specs.Prelude.{if◌then◌else◌}
 use Rattle.chars.proofs.Laws.{or_right}
 use Rattle.parts.specs.declared.Name.{Name}
 use Rattle.basics.specs.Judged.{first_of}

@@ -3,7 +3,7 @@
 -- and use all".
 use Rattle.std.specs.Prelude.{Bool, true, ◌||◌, ◌&&◌, not, List, ℕ, zero, suc, ◌+◌, ◌*◌, ◌/◌, ◌%◌, eqb, leb, ltb, length}
 use Rattle.chars.specs.Ascii.{is_letter, is_name_byte}
-use Rattle.basics.specs.Choice.{if◌then◌else◌}
+use Rattle.std.specs.Prelude.{if◌then◌else◌}
 use Rattle.fields.specs.Codes.{is_width}
 use Rattle.fields.specs.declared.FieldAt.{FieldAt}
 use Rattle.fields.specs.declared.FieldType.{FieldType}

@@ -1,6 +1,6 @@
 -- The map that stands in four tables: the rows read back.
 use Rattle.std.specs.Prelude.{List, [], ◌∷◌, ℕ, zero, suc, ◌+◌, ◌-◌, ◌*◌, ◌/◌, eqb, length}
-use Rattle.basics.specs.Choice.{if◌then◌else◌}
+use Rattle.std.specs.Prelude.{if◌then◌else◌}
 use Rattle.basics.specs.declared.Given.{Given}
 use Rattle.basics.specs.declared.Given.TheVariants.{Nothing, Number}
 use Rattle.basics.specs.Slices.{cell_of}

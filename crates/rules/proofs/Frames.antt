@@ -7,7 +7,7 @@ use native.Mathlib.Omega.{arith}
 use lib.ListN.{length}
 use lib.Dec.{ltb}
 use borrow.Author.Tests.{ltb-false}
-use Rattle.basics.specs.Choice.{if◌then◌else◌}
+use Rattle.std.specs.Prelude.{if◌then◌else◌}
 use Rattle.parts.specs.declared.Name.{Name}
 use Rattle.suffixes.specs.Suffixes.{instance_fault}
 use Rattle.basics.specs.declared.Fault.TheVariants.{None}

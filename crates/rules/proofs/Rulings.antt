@@ -7,7 +7,7 @@ use native.Mathlib.Omega.{arith}
 use lib.Dec.{ltb}
 use lib.ListN.{length, get_or}
 use borrow.Author.Tests.{ltb-false}
-use Rattle.basics.specs.Choice.{if◌then◌else◌}
+use Rattle.std.specs.Prelude.{if◌then◌else◌}
 use Rattle.basics.specs.Limits.{text_limit}
 use Rattle.lex.specs.Words.{refused, words_verdict, verdict_numbers, first_bad}
 use Rattle.lex.specs.declared.Place.{Place as TextPlace}

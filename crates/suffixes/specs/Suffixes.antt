@@ -1,6 +1,6 @@
 -- The suffixes of an instance (document 01, "Names, properties, fields" and the table of refusals): rules 9 and 11.
 use Rattle.std.specs.Prelude.{Bool, true, false, ◌||◌, ◌&&◌, not, ℕ, leb, ltb}
-use Rattle.basics.specs.Choice.{if◌then◌else◌}
+use Rattle.std.specs.Prelude.{if◌then◌else◌}
 use Rattle.expressions.specs.declared.Refusal.{Refusal}
 use Rattle.expressions.specs.declared.Refusal.TheVariants.{Nowhere, AtOperator}
 use Rattle.expressions.specs.declared.Number.{Number}

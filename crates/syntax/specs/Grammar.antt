@@ -2,7 +2,7 @@
 -- the refusal. A reader that repeats takes a number of turns; one more than the text has bytes is enough, since each turn moves the
 -- cursor on. (What a `let` binds is computed only where it is used.)
 use Rattle.std.specs.Prelude.{Bool, ◌&&◌, List, [], ◌∷◌, ℕ, zero, suc, length}
-use Rattle.basics.specs.Choice.{if◌then◌else◌}
+use Rattle.std.specs.Prelude.{if◌then◌else◌}
 use Rattle.lex.specs.Token.{token_at}
 use Rattle.vocabulary.specs.declared.Mark.TheVariants as mark
 use Rattle.parts.specs.Reading.{Parsed, ok, stop, and_then, mapped}

@@ -1,7 +1,7 @@
 -- Document 02, item 3: "choose by length and first byte before comparing". Which keywords such a choice leaves. What a word is, `keyword_of`
 -- says, and no answer shows how it was found; how many comparisons are made, nothing here says.
 use Rattle.std.specs.Prelude.{List, [], ◌∷◌, ◌++◌, map, ℕ, eqb, length, get_or}
-use Rattle.basics.specs.Choice.{if◌then◌else◌}
+use Rattle.std.specs.Prelude.{if◌then◌else◌}
 use Rattle.vocabulary.specs.declared.Keyword.{Keyword}
 use Rattle.vocabulary.specs.declared.Lookup.{Lookup}
 use Rattle.vocabulary.specs.declared.Lookup.TheVariants.{Kept, LeftOut, NotKeyword}

@@ -1,7 +1,7 @@
 -- The literal words of document 004 (document 01, "Words": keywords), the properties that the course takes, and the marks.
 use Rattle.std.specs.Prelude.{List, [], ◌∷◌, ◌++◌, ℕ}
 use Rattle.chars.specs.Ascii.{bytes}
-use Rattle.basics.specs.Choice.{if◌then◌else◌}
+use Rattle.std.specs.Prelude.{if◌then◌else◌}
 use Rattle.chars.specs.Same.{same_bytes}
 use Rattle.vocabulary.specs.declared.Keyword.{Keyword}
 use Rattle.vocabulary.specs.declared.Keyword.TheVariants as keyword
