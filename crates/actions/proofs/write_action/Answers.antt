@@ -1,7 +1,11 @@
 -- `actions::write_action` meets its contract: each arm by the number that it tests, the last by those that it is not.
-use mathlib.Core.Path.{◌∙◌}
+use borrow.Author.Rules.{rules}
+use mathlib.Core.Bool.{Bool}
+use mathlib.Core.Path.{◌≡◌, ◌∙◌}
+use Prim.Native.Nat.{ℕ}
 use borrow.Author.Tests.{ne_eqb}
-use Rattle.actions.specs.Actions.{write_action}
+use Rattle.actions.specs.declared.Action.{Action}
+use Rattle.actions.specs.Actions.{copied, write_action}
 use Rattle.actions.proofs.write_action.Goals as goal
 
 pub returns-in-1 : goal.returns-in-1
@@ -36,18 +40,12 @@ pub returns-in-8 : goal.returns-in-8
 unfolding write_action
 returns-in-8 c = rw c.in-8.is
 
-pub returns-in_default : goal.returns-in_default
+-- any other number copies the bit
+copies : (code : ℕ) (b : Bool) → (code ≡ 1 → ⊥) → (code ≡ 2 → ⊥) → (code ≡ 3 → ⊥) → (code ≡ 4 → ⊥) → (code ≡ 5 → ⊥) → (code ≡ 6 → ⊥) → (code ≡ 7 → ⊥) → (code ≡ 8 → ⊥)
+    → {r : Action} → r ≡ copied b → r ≡ write_action code b
 unfolding write_action
-returns-in_default c =
-    let rest = c.in_default.in_default-own.rest in
-    c.copied_bit.ensures
-    ∙ simp (
-      ne_eqb _ _ rest.0.0.0.0.0.0.0.1,
-      ne_eqb _ _ rest.0.0.0.0.0.0.1,
-      ne_eqb _ _ rest.0.0.0.0.0.1,
-      ne_eqb _ _ rest.0.0.0.0.1,
-      ne_eqb _ _ rest.0.0.0.1,
-      ne_eqb _ _ rest.0.0.1,
-      ne_eqb _ _ rest.0.1,
-      ne_eqb _ _ rest.1,
-    )
+copies code b n1 n2 n3 n4 n5 n6 n7 n8 e =
+    e ∙ simp (ne_eqb _ _ n1, ne_eqb _ _ n2, ne_eqb _ _ n3, ne_eqb _ _ n4, ne_eqb _ _ n5, ne_eqb _ _ n6, ne_eqb _ _ n7, ne_eqb _ _ n8)
+
+pub returns-in_default : goal.returns-in_default
+returns-in_default c = search (rules, copies)
