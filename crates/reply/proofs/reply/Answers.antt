@@ -16,50 +16,50 @@ large = zeros_large (register_limit * register_row_width) (register_limit * path
 pub overflow_mul-count : goal.overflow_mul-count
 overflow_mul-count c =
     let k = c.compile in
-    let l = k.new.1 in
-    record { fits = (accepted_holds _ _ large k.ensures.0 (tables l.0 l.1.0 l.1.1.0 l.1.1.1.0) k.ensures.1.0 c.in-Accepted.is).few_numbers }
+    let l = k.new in
+    record { fits = (accepted_holds _ _ large k.ensures.answer (tables l.registers l.paths l.fields l.labels) k.ensures.lent c.in-Accepted.is).few_numbers }
 
 pub slice_bounds-write_listing-end : goal.slice_bounds-write_listing-end
 slice_bounds-write_listing-end c =
     let k = c.compile in
-    let l = k.new.1 in
-    (accepted_holds _ _ large k.ensures.0 (tables l.0 l.1.0 l.1.1.0 l.1.1.1.0) k.ensures.1.0 c.in-Accepted.is).registers_fit
+    let l = k.new in
+    (accepted_holds _ _ large k.ensures.answer (tables l.registers l.paths l.fields l.labels) k.ensures.lent c.in-Accepted.is).registers_fit
 
 pub overflow_mul-count-in-Accepted : goal.overflow_mul-count-in-Accepted
 overflow_mul-count-in-Accepted c =
     let k = c.compile in
-    let l = k.new.1 in
-    record { fits = (accepted_holds _ _ large k.ensures.0 (tables l.0 l.1.0 l.1.1.0 l.1.1.1.0) k.ensures.1.0 c.in-Accepted.is).few_paths }
+    let l = k.new in
+    record { fits = (accepted_holds _ _ large k.ensures.answer (tables l.registers l.paths l.fields l.labels) k.ensures.lent c.in-Accepted.is).few_paths }
 
 pub slice_bounds-write_listing-end-in-Accepted : goal.slice_bounds-write_listing-end-in-Accepted
 slice_bounds-write_listing-end-in-Accepted c =
     let k = c.compile in
-    let l = k.new.1 in
-    (accepted_holds _ _ large k.ensures.0 (tables l.0 l.1.0 l.1.1.0 l.1.1.1.0) k.ensures.1.0 c.in-Accepted.is).paths_fit
+    let l = k.new in
+    (accepted_holds _ _ large k.ensures.answer (tables l.registers l.paths l.fields l.labels) k.ensures.lent c.in-Accepted.is).paths_fit
 
 pub overflow_mul-all : goal.overflow_mul-all
 overflow_mul-all c =
     let k = c.compile in
-    let l = k.new.1 in
-    record { fits = (accepted_holds _ _ large k.ensures.0 (tables l.0 l.1.0 l.1.1.0 l.1.1.1.0) k.ensures.1.0 c.in-Accepted.is).few_fields }
+    let l = k.new in
+    record { fits = (accepted_holds _ _ large k.ensures.answer (tables l.registers l.paths l.fields l.labels) k.ensures.lent c.in-Accepted.is).few_fields }
 
 pub slice_bounds-write_listing-end-in-Accepted-2 : goal.slice_bounds-write_listing-end-in-Accepted-2
 slice_bounds-write_listing-end-in-Accepted-2 c =
     let k = c.compile in
-    let l = k.new.1 in
-    (accepted_holds _ _ large k.ensures.0 (tables l.0 l.1.0 l.1.1.0 l.1.1.1.0) k.ensures.1.0 c.in-Accepted.is).fields_fit
+    let l = k.new in
+    (accepted_holds _ _ large k.ensures.answer (tables l.registers l.paths l.fields l.labels) k.ensures.lent c.in-Accepted.is).fields_fit
 
 pub overflow_mul-all-in-Accepted : goal.overflow_mul-all-in-Accepted
 overflow_mul-all-in-Accepted c =
     let k = c.compile in
-    let l = k.new.1 in
-    record { fits = (accepted_holds _ _ large k.ensures.0 (tables l.0 l.1.0 l.1.1.0 l.1.1.1.0) k.ensures.1.0 c.in-Accepted.is).few_labels }
+    let l = k.new in
+    record { fits = (accepted_holds _ _ large k.ensures.answer (tables l.registers l.paths l.fields l.labels) k.ensures.lent c.in-Accepted.is).few_labels }
 
 pub slice_bounds-write_listing-end-in-Accepted-3 : goal.slice_bounds-write_listing-end-in-Accepted-3
 slice_bounds-write_listing-end-in-Accepted-3 c =
     let k = c.compile in
-    let l = k.new.1 in
-    (accepted_holds _ _ large k.ensures.0 (tables l.0 l.1.0 l.1.1.0 l.1.1.1.0) k.ensures.1.0 c.in-Accepted.is).labels_fit
+    let l = k.new in
+    (accepted_holds _ _ large k.ensures.answer (tables l.registers l.paths l.fields l.labels) k.ensures.lent c.in-Accepted.is).labels_fit
 
 -- the answers
 pub returns-in-Refused : goal.returns-in-Refused
@@ -67,5 +67,5 @@ returns-in-Refused c = let w = reply_refused _ _ large c.compile.ensures.answer 
 
 pub returns-in-Accepted : goal.returns-in-Accepted
 returns-in-Accepted c = let k = c.compile in
-    let l = k.new.1 in
-    let w = reply_accepted (accepted_holds _ _ large k.ensures.0 (tables l.0 l.1.0 l.1.1.0 l.1.1.1.0) k.ensures.1.0 c.in-Accepted.is) c.write_listing.ensures in record { answer = w.0; written = w.1 }
+    let l = k.new in
+    let w = reply_accepted (accepted_holds _ _ large k.ensures.answer (tables l.registers l.paths l.fields l.labels) k.ensures.lent c.in-Accepted.is) c.write_listing.ensures in record { answer = w.0; written = w.1 }
