@@ -90,7 +90,7 @@ and_swap true false = refl
 and_swap false true = refl
 and_swap false false = refl
 
--- one read-only and one write-only, either way round
+-- one read-only and one write_only_lem, either way round
 module _ (a b : ℕ) {r : Bool} (e : r ≡ (eqb a 1 && eqb b 2)) where
   pub pair_yes : r ≡ true → true ≡ is_read_write_pair a b
   unfolding is_read_write_pair

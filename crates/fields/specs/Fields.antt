@@ -45,7 +45,7 @@ is_reset_wide f = is_wide f.values.reset (suc f.high.0 - f.low.0)
 unfoldable pub is_outside : ℕ → FieldAt → Bool
 is_outside width f = leb width f.high.0
 
--- "Overlap is lawful only between one read-only and one write-only: `sw` is `r`, respectively `w`"
+-- "Overlap is lawful only between one read-only and one write_only_lem: `sw` is `r`, respectively `w`"
 unfoldable pub is_read_write_pair : ℕ → ℕ → Bool
 is_read_write_pair a b = (eqb a (access_code access.R) && eqb b (access_code access.W)) || (eqb a (access_code access.W) && eqb b (access_code access.R))
 

@@ -241,7 +241,7 @@ fn is_reset_wide(field: FieldAt) -> bool
     is_wide(reset, past - field.low.0)
 }
 
-// Whether the first is read-only and the second write-only.
+// Whether the first is read-only and the second write_only_lem.
 fn is_read_write(a: u64, b: u64) -> bool
     ensures { result ≡ (eqb a (access_code AccessRight.R) && eqb b (access_code AccessRight.W)) }
 {
@@ -251,7 +251,7 @@ fn is_read_write(a: u64, b: u64) -> bool
     b == access_code(AccessRight::W)
 }
 
-// Whether one access is read-only and the other write-only.
+// Whether one access is read-only and the other write_only_lem.
 pub fn is_pair(a: u64, b: u64) -> bool
     ensures { result ≡ is_read_write_pair a b }
 {

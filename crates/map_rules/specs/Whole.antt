@@ -59,7 +59,7 @@ every_access a (f ∷ fs) = eqb f.values.sw a && every_access a fs
 abbrev pub has_access : List Definition → ℕ → ℕ → Bool
 has_access table a type = every_access a (fields_of table (definition_of table type).instances)
 
--- "one read-only and one write-only"
+-- "one read-only and one write_only_lem"
 unfoldable pub is_pair : List Definition → ℕ → ℕ → Bool
 is_pair table reader writer = has_access table (access_code access.R) reader && has_access table (access_code access.W) writer
 

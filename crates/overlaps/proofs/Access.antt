@@ -149,7 +149,7 @@ module _ (text t : List ℕ) (row a : ℕ) {to i : ℕ} (s : Asking text t row a
     pub asking_next : not r ≡ false → Asking text t row a to (i + 1)
     asking_next y = record { each = λ e ready low. left_next e ready low y }
 
--- ---- a register has a field, and no field is both only read and only written: so no register is both read-only and write-only
+-- ---- a register has a field, and no field is both only read and only written: so no register is both read-only and write_only_lem
 
 one_access : (n : ℕ) (x y : Bool) → ((eqb n (access_code access.R) && x) && (eqb n (access_code access.W) && y)) ≡ false
 one_access n x y = by (eqb n (access_code access.R)) refl (eqb n (access_code access.W)) refl x

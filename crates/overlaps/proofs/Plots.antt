@@ -146,7 +146,7 @@ module _ (text t s log : List ℕ) (e : Extent) (row : ℕ) (c : Charted text t 
   start_low : start_in log i ≤ address_end
   start_low = omega (arith, logged_address, seen_at.sited.within)
 
-  -- it is not both read-only and write-only
+  -- it is not both read-only and write_only_lem
   once : (read_only (known text t e) visit.type && write_only (known text t e) visit.type) ≡ false
   once = register_once text t e visit.type c.shaped.ready type_low seen_at.type.known_as
 
@@ -163,7 +163,7 @@ module _ (text t s log : List ℕ) (e : Extent) (row : ℕ) (c : Charted text t 
 
 -- ---- the stretches of two registers clash where the registers overlap
 
--- two registers neither of which is both read-only and write-only are both readable, or both writable, or lawfully shared
+-- two registers neither of which is both read-only and write_only_lem are both readable, or both writable, or lawfully shared
 sides_lawful : (ri wi rj wj : Bool) → (ri && wi) ≡ false → (rj && wj) ≡ false
     → ((not wi && not wj) || (not ri && not rj)) ≡ not ((rj && wi) || (ri && wj))
 sides_lawful true true rj wj a b = absurd (let z : ◌≡◌ {A = ℕ} 0 1 = cc in omega arith)

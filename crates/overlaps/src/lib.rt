@@ -26,7 +26,7 @@ pub struct Plot {
     pub size: u64,
 }
 
-// A register's bytes, up to the one behind its last; and its access: it counts as readable unless every field is write-only, and as
+// A register's bytes, up to the one behind its last; and its access: it counts as readable unless every field is write_only_lem, and as
 // writable unless every field is read-only. Two registers may share a byte unless both count as readable or both as writable.
 #[derive(Clone, Copy)]
 pub struct Stretch {
