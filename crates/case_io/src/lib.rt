@@ -4,8 +4,10 @@
 ghost use Rattle.std.specs.Prelude.{◌≡◌, ◌<◌, IfOk, OnOk, OnErr, ◌++◌, decimal};
 ghost use Rattle.std.specs.Counts.{IsPrefixLen};
 ghost use Rattle.std.specs.Io.KnownBytes.{Appends};
-ghost use Rattle.streams.specs.Filled.{KeepsRead, LosesFront};
+ghost use Rattle.case_io.specs.Lines.{verdict_text};
+ghost use Rattle.streams.specs.Filled.{AppendsPart, KeepsRead, LosesFront};
 
+use itoa::Buffer;
 use lex::Verdict;
 use std::io;
 use std::io::{Read, Write};
@@ -31,21 +33,27 @@ pub struct InputPart {
 }
 
 pub fn put<W: Write>(out: &mut W, bytes: &[u8]) -> io::Result<()>
-    ensures { OnOk result (Appends (W.contents out.old) (W.contents out.new) bytes.now) }
+    ensures ok { OnOk result (Appends (W.contents out.old) (W.contents out.new) bytes.now) }
+    ensures err { OnErr result (AppendsPart (W.contents out.old) (W.contents out.new) bytes.now) }
 {
-    out.write_all(bytes)
+    streams::pour(out, bytes)
 }
 
 // A label, then a number.
 pub fn put_number<W: Write>(out: &mut W, label: &[u8], n: u64) -> io::Result<()>
-    ensures { OnOk result (Appends (W.contents out.old) (W.contents out.new) (label.now ++ decimal n)) }
+    ensures ok { OnOk result (Appends (W.contents out.old) (W.contents out.new) (label.now ++ decimal n)) }
+    ensures err { OnErr result (AppendsPart (W.contents out.old) (W.contents out.new) (label.now ++ decimal n)) }
 {
     put(out, label)?;
-    write!(out, "{n}")
+    let mut digits = Buffer::new();
+    put(out, digits.format(n).as_bytes())
 }
 
 // The end of a case's line: its verdict.
-pub fn put_verdict<W: Write>(out: &mut W, verdict: Verdict) -> io::Result<()> {
+pub fn put_verdict<W: Write>(out: &mut W, verdict: Verdict) -> io::Result<()>
+    ensures ok { OnOk result (Appends (W.contents out.old) (W.contents out.new) (verdict_text verdict)) }
+    ensures err { OnErr result (AppendsPart (W.contents out.old) (W.contents out.new) (verdict_text verdict)) }
+{
     match verdict {
         Verdict::Accepted => put(out, b" accepted\n"),
         Verdict::Refused(number, place) => {

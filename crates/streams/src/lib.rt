@@ -1,12 +1,12 @@
-// Reading to the start of a room, from a file or from standard input.
+// Reading to the start of a room, from a file or from standard input, and writing all of some bytes.
 #![tactic(auto)]
 
-ghost use Rattle.std.specs.Prelude.{◌<◌, ◌≤◌, IfOk, OnErr, length, take};
-ghost use Rattle.std.specs.Io.KnownBytes.{Consumes, IsAtEnd};
-ghost use Rattle.streams.specs.Filled.{KeepsRead};
+ghost use Rattle.std.specs.Prelude.{◌<◌, ◌≤◌, IfOk, OnOk, OnErr, length, take};
+ghost use Rattle.std.specs.Io.KnownBytes.{Appends, Consumes, IsAtEnd};
+ghost use Rattle.streams.specs.Filled.{AppendsPart, KeepsRead};
 
 use std::io;
-use std::io::Read;
+use std::io::{ErrorKind, Read, Write};
 
 // Reads until the room is full or the input ends, and answers how many bytes it put at the room's start. Where a read fails, what was read
 // before it stands there.
@@ -25,4 +25,25 @@ pub fn fill<R: Read>(input: &mut R, room: &mut [u8]) -> io::Result<usize>
         done += got;
     }
     Ok(done)
+}
+
+// Writes all the bytes, in as many writes as that takes; one that was interrupted is tried again. Where a write fails, or takes none of the rest,
+// what was written before it stands.
+pub fn pour<W: Write>(out: &mut W, bytes: &[u8]) -> io::Result<()>
+    ensures ok { OnOk result (Appends (W.contents out.old) (W.contents out.new) bytes.now) }
+    ensures err { OnErr result (AppendsPart (W.contents out.old) (W.contents out.new) bytes.now) }
+{
+    let mut done = 0;
+    for _ in 0..u64::MAX {
+        if done == bytes.len() {
+            return Ok(());
+        }
+        match out.write(&bytes[done..]) {
+            Ok(0) => return Err(io::Error::from(ErrorKind::WriteZero)),
+            Ok(put) => done += put,
+            Err(e) if e.kind() == ErrorKind::Interrupted => {}
+            Err(e) => return Err(e),
+        }
+    }
+    Err(io::Error::from(ErrorKind::TimedOut))
 }
