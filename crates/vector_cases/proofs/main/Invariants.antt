@@ -1,5 +1,5 @@
 -- The count of cases bounds the turns and the count of those that agree.
-use Rattle.std.proofs.Common.{◌-◌, ◌≤◌, ◌×◌}
+use Rattle.std.proofs.Common.{◌-◌, ◌≤◌}
 use Rattle.vector_cases.proofs.main.Given as goal
 
 abbrev pub invariant-loop-cases : goal.invariant-loop-cases
