@@ -18,21 +18,48 @@ use Rattle.rows.proofs.Registers.{width_bounds}
 use Rattle.model.specs.declared.View.{View}
 use Rattle.model.specs.declared.Access.{Access}
 use Rattle.model.specs.declared.Access.TheVariants.{Read, Write}
-use Rattle.model.specs.declared.Answer.{Answer}
-use Rattle.model.specs.declared.Answer.TheVariants as answer
 use Rattle.model.specs.Model.{fits, address_of, width_of, well_formed, stepped, gives, bits_of, word_from, answer_with, access_numbers, numbers_with}
 use Rattle.model.specs.Repeats.{repeats}
 use Rattle.field_access.proofs.Tests.{failed, passed}
 use Rattle.access.specs.Stored.{stored_fields, device_from, device_in}
-use Rattle.access.specs.declared.Restored.{Restored}
-use Rattle.access.specs.declared.Restored.TheVariants as restored
-use Rattle.access.specs.declared.Retried.{Retried}
-use Rattle.access.specs.declared.Retried.TheVariants as retried
-use Rattle.access.specs.Perform.{is_short, is_reached, refusal_of, answer_of, store_after, reset_refusal, restored_with, reset_answer, store_reset, reset_numbers, retry_refusal, retry_with, retry_of, retry_numbers}
+use Rattle.access.specs.Perform.{is_short, is_reached, refusal_of, answer_of, unless_refused, store_after, reset_refusal, restored_with, reset_answer, store_reset, reset_numbers, retry_refusal, retry_with, retry_of, retry_numbers}
 use Rattle.access.specs.Runs.{LawfulRows, RangedFields, all_fields, reached_rows, fitting_rows, resets_from}
 use Rattle.access.proofs.Facts.{rows_few, fields_few, all_fields_lem}
 use Rattle.access.proofs.Fields.{stored_rows_lem, stored_count, stored_reached}
 use Rattle.access.proofs.Stores.{stored_fitting, stored_reset}
+use Rattle.basics.specs.Judged.{Outcome, gave, barred, rule_number}
+use Rattle.basics.specs.declared.Rule.{Rule}
+use Rattle.basics.specs.declared.Rule.TheVariants as rule
+use Rattle.access.specs.declared.Resend.{Resend}
+use Rattle.access.specs.declared.Resend.TheVariants.{Safe, Unsafe}
+
+-- a rule's number is not 0
+numbered : (P : ℕ → Type 0) → ((n : ℕ) → P (suc n)) → (r : Rule) → P (rule_number r)
+numbered P p rule.TextLength = p 0
+numbered P p rule.BadWord = p 1
+numbered P p rule.BadSentence = p 2
+numbered P p rule.LeftOutKeyword = p 3
+numbered P p rule.UnknownType = p 4
+numbered P p rule.NameTaken = p 5
+numbered P p rule.PropertyMisplaced = p 6
+numbered P p rule.SetTwice = p 7
+numbered P p rule.BadValue = p 8
+numbered P p rule.Misplaced = p 9
+numbered P p rule.SuffixMisplaced = p 10
+numbered P p rule.UnusableEffect = p 11
+numbered P p rule.WideReset = p 12
+numbered P p rule.WideAccess = p 13
+numbered P p rule.FieldOutside = p 14
+numbered P p rule.FieldsOverlap = p 15
+numbered P p rule.FieldSpansParts = p 16
+numbered P p rule.TooMany = p 17
+numbered P p rule.ShortStride = p 18
+numbered P p rule.RegisterMisplaced = p 19
+numbered P p rule.RegistersOverlap = p 20
+numbered P p rule.NoRoom = p 21
+numbered P p rule.BadAccess = p 22
+numbered P p rule.BadRows = p 23
+numbered P p rule.NothingReached = p 24
 
 -- what the tests say that came before
 formed_width : (x : Access) → well_formed x ≡ true → is_width (width_of x) ≡ true
@@ -117,15 +144,13 @@ abbrev first_of : Bool → Bool → Bool → Bool → Bool → ℕ
 first_of a b c d e = if not a then 23 else if not b then 24 else if c then 22 else if not d then 24 else if not e then 25 else 0
 
 module _ (t : Tables) (s : List ℕ) (x : Access) where
-  pub refused_answer : (n : ℕ) → n ≡ refusal_of t s x → (n ≡ 0 → ⊥) → answer.Refused n ≡ answer_of t s x
+  pub refused_answer : (r : Rule) → rule_number r ≡ refusal_of t s x → barred (rule_number r) ≡ answer_of t s x
   unfolding answer_of
-  refused_answer zero e f = absurd (f refl)
-  refused_answer (suc n) e f = rw (← e)
+  refused_answer r e = rw (← e) (sym (numbered (λ n. answer_with n (word_from (device_in t) x (bits_of s)) ≡ barred n) (λ n. refl) r))
 
-  pub refused_store : (n : ℕ) → n ≡ refusal_of t s x → (n ≡ 0 → ⊥) → s ≡ store_after t s x
+  pub refused_store : (r : Rule) → rule_number r ≡ refusal_of t s x → s ≡ store_after t s x
   unfolding store_after
-  refused_store zero e f = absurd (f refl)
-  refused_store (suc n) e f = rw (← e)
+  refused_store r e = rw (← e) (numbered (λ n. s ≡ unless_refused n (stepped x (stored_fields t) s) s) (λ n. refl) r)
 
   -- what no refusal says of the access, the rows and the store
   record Granted : Type 0 where
@@ -150,9 +175,9 @@ module _ (t : Tables) (s : List ℕ) (x : Access) where
     has_rows : LawfulRows (width_of x) t.registers t.fields
     has_rows = record { paths = t.paths; labels = t.labels; rows = is_granted.rows; width = formed_width x is_granted.form }
 
-    pub answered_word : {w : ℕ} → w ≡ word_from (device_from (all_fields t.registers t.fields)) x (bits_of s) → answer.Word w ≡ answer_of t s x
+    pub answered_word : {w : ℕ} → w ≡ word_from (device_from (all_fields t.registers t.fields)) x (bits_of s) → gave w ≡ answer_of t s x
     unfolding answer_of
-    answered_word f = rw (sym e ∙ z) (ap answer.Word (f ∙ ap (λ (m : List View). word_from (device_from m) x (bits_of s)) (sym (stored_rows_lem t is_granted.rows))))
+    answered_word f = rw (sym e ∙ z) (ap gave (f ∙ ap (λ (m : List View). word_from (device_from m) x (bits_of s)) (sym (stored_rows_lem t is_granted.rows))))
 
     pub answered_store : {u : List ℕ} → u ≡ stepped x (all_fields t.registers t.fields) s → u ≡ store_after t s x
     unfolding store_after
@@ -167,7 +192,7 @@ answered_asks registers paths fields labels s x e z = (has_rows (tables register
 
 module _ (t : Tables) (s : List ℕ) {b : Bool} (f : b ≡ lawful t) where
   module _ (z : not b ≡ true) where
-    pub unlawful_answer : restored.Refused 24 ≡ reset_answer t s
+    pub unlawful_answer : barred 24 ≡ reset_answer t s
     unfolding reset_answer reset_refusal
     unlawful_answer = rw (failed f z)
 
@@ -176,7 +201,7 @@ module _ (t : Tables) (s : List ℕ) {b : Bool} (f : b ≡ lawful t) where
     unlawful_store = rw (failed f z)
 
   module _ (z : not b ≡ false) (h : length s < length t.fields / field_row_width) where
-    pub short_answer : restored.Refused 22 ≡ reset_answer t s
+    pub short_answer : barred 22 ≡ reset_answer t s
     unfolding reset_answer reset_refusal
     short_answer = rw (passed f z, is_short_lem t s (passed f z) h)
 
@@ -185,9 +210,9 @@ module _ (t : Tables) (s : List ℕ) {b : Bool} (f : b ≡ lawful t) where
     short_store = rw (passed f z, is_short_lem t s (passed f z) h)
 
   module _ (z : not b ≡ false) (h : length t.fields / field_row_width ≤ length s) where
-    pub reset_answer_lem : {n : ℕ} → n ≡ length t.fields / field_row_width → restored.Written n ≡ reset_answer t s
+    pub reset_answer_lem : {n : ℕ} → n ≡ length t.fields / field_row_width → gave n ≡ reset_answer t s
     unfolding reset_answer reset_refusal
-    reset_answer_lem e = rw (passed f z, is_long t s (passed f z) h) (ap restored.Written (e ∙ sym (stored_count t (passed f z))))
+    reset_answer_lem e = rw (passed f z, is_long t s (passed f z) h) (ap gave (e ∙ sym (stored_count t (passed f z))))
 
     pub reset_store : {u : List ℕ} → u ≡ resets_from t.fields 0 (length t.fields / field_row_width) ++ drop (length t.fields / field_row_width) s → u ≡ store_reset t s
     unfolding store_reset reset_refusal
@@ -196,18 +221,18 @@ module _ (t : Tables) (s : List ℕ) {b : Bool} (f : b ≡ lawful t) where
 -- ---- whether an access may be sent again
 
 module _ (t : Tables) (x : Access) {a : Bool} (e : a ≡ well_formed x) where
-  pub retry_form : not a ≡ true → retried.Refused 23 ≡ retry_of t x
+  pub retry_form : not a ≡ true → barred 23 ≡ retry_of t x
   unfolding retry_of retry_refusal
   retry_form y = rw (failed e y)
 
   module _ {b : Bool} (y : not a ≡ false) (f : b ≡ lawful t) where
-    pub retry_rows : not b ≡ true → retried.Refused 24 ≡ retry_of t x
+    pub retry_rows : not b ≡ true → barred 24 ≡ retry_of t x
     unfolding retry_of retry_refusal
     retry_rows z = rw (passed e y, failed f z)
 
     module _ {p : Offset} {w : ℕ} {d : Bool} (z : not b ≡ false) (k : p ≡ address_of x) (l : w ≡ width_of x)
         (m : d ≡ reached_rows p w t.registers 0 (length t.registers / register_row_width)) where
-      pub retry_reach : not d ≡ true → retried.Refused 25 ≡ retry_of t x
+      pub retry_reach : not d ≡ true → barred 25 ≡ retry_of t x
       unfolding retry_of retry_refusal
       retry_reach v = rw (passed e y, passed f z, failed (reached_at t x (passed f z) k l m) v)
 
@@ -215,18 +240,18 @@ module _ (t : Tables) (x : Access) {a : Bool} (e : a ≡ well_formed x) where
         repeats_all : r ≡ repeats (stored_fields t) x
         repeats_all = g ∙ ap (λ (o : List View). repeats o x) (sym (stored_rows_lem t (passed f z)))
 
-        pub retry_safe : r ≡ true → retried.Safe ≡ retry_of t x
+        pub retry_safe : r ≡ true → (gave Safe) ≡ retry_of t x
         unfolding retry_of retry_refusal
         retry_safe u = rw (passed e y, passed f z, passed (reached_at t x (passed f z) k l m) v, sym repeats_all ∙ u)
 
-        pub retry_unsafe : r ≡ false → retried.Unsafe ≡ retry_of t x
+        pub retry_unsafe : r ≡ false → (gave Unsafe) ≡ retry_of t x
         unfolding retry_of retry_refusal
         retry_unsafe u = rw (passed e y, passed f z, passed (reached_at t x (passed f z) k l m) v, sym repeats_all ∙ u)
 
 -- ---- an answer and a store, with the answer in document 01's numbers
 
 module _ (t : Tables) where
-  pub access_told : (s : List ℕ) (x : Access) {r : Answer} {u : List ℕ} → r ≡ answer_of t s x → u ≡ store_after t s x
+  pub access_told : (s : List ℕ) (x : Access) {r : Outcome ℕ} {u : List ℕ} → r ≡ answer_of t s x → u ≡ store_after t s x
       → (r ≡ answer_of t s x) × ((u ≡ store_after t s x) × (access_numbers r ≡ numbers_with (refusal_of t s x) (word_from (device_in t) x (bits_of s))))
   unfolding answer_of
   access_told s x e f = (e, (f, ap access_numbers e ∙ by (refusal_of t s x)))
@@ -235,7 +260,7 @@ module _ (t : Tables) where
       by zero = refl
       by (suc n) = refl
 
-  pub reset_told : (s : List ℕ) {r : Restored} {u : List ℕ} → r ≡ reset_answer t s → u ≡ store_reset t s
+  pub reset_told : (s : List ℕ) {r : Outcome ℕ} {u : List ℕ} → r ≡ reset_answer t s → u ≡ store_reset t s
       → (r ≡ reset_answer t s) × ((u ≡ store_reset t s) × (reset_numbers r ≡ numbers_with (reset_refusal t s) (length (device_in t).sizes)))
   unfolding reset_answer
   reset_told s e f = (e, (f, ap reset_numbers e ∙ by (reset_refusal t s)))
@@ -244,7 +269,7 @@ module _ (t : Tables) where
       by zero = refl
       by (suc n) = refl
 
-  pub retry_told : (x : Access) {r : Retried} → r ≡ retry_of t x → (r ≡ retry_of t x) × (retry_numbers r ≡ numbers_with (retry_refusal t x) (if repeats (stored_fields t) x then 1 else 0))
+  pub retry_told : (x : Access) {r : Outcome Resend} → r ≡ retry_of t x → (r ≡ retry_of t x) × (retry_numbers r ≡ numbers_with (retry_refusal t x) (if repeats (stored_fields t) x then 1 else 0))
   unfolding retry_of
   retry_told x e = (e, ap retry_numbers e ∙ by (retry_refusal t x) (repeats (stored_fields t) x))
     where

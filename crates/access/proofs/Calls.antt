@@ -13,18 +13,18 @@ use Rattle.rows.specs.Rows.{Tables}
 use Rattle.rows.specs.Lawful.{lawful}
 use Rattle.model.specs.declared.View.{View}
 use Rattle.model.specs.declared.Access.{Access}
-use Rattle.model.specs.declared.Answer.{Answer}
 use Rattle.model.specs.Model.{fits, Words, well_formed, stepped, refusal, after, bits_of, word_from, answer_with, answer_from, word_in}
 use Rattle.model.specs.Lists.{run, answers}
 use Rattle.model.specs.Repeats.{repeats}
 use Rattle.model.proofs.Fits.{fits_long, fits_words}
 use Rattle.model.proofs.Demand.{fitting-after}
-use Rattle.access.specs.declared.Retried.TheVariants.{Safe, Unsafe}
 use Rattle.access.specs.Stored.{stored_fields, device_in}
 use Rattle.access.specs.Perform.{is_short, is_reached, refusal_of, answer_of, unless_refused, store_after, resets, reset_refusal, store_reset, retry_refusal, retry_with, retry_of, Fitting, Answered, store_after_all, answers_of}
 use Rattle.access.proofs.Fields.{length_sizes}
 use Rattle.access.proofs.Suited.{lawful_suited}
 use Rattle.access.proofs.Stores.{stored_reset_fits}
+use Rattle.basics.specs.Judged.{Outcome, gave}
+use Rattle.access.specs.declared.Resend.TheVariants.{Safe, Unsafe}
 
 length-resets : (m : List View) → length (resets m) ≡ length m
 unfolding resets
@@ -74,7 +74,7 @@ module _ (t : Tables) (e : lawful t ≡ true) where
   unfolding answers_of answers
   calls_answers [] s h = refl
   calls_answers (x ∷ xs) s h =
-      ap₂ (λ (a : Answer) (l : List Answer). a ∷ l) (call_answer s h x) (calls_answers xs (store_after t s x) (call_fits s h x) ∙ ap (answers (device_in t) xs) (call_store s h x))
+      ap₂ (λ (a : Outcome ℕ) (l : List (Outcome ℕ)). a ∷ l) (call_answer s h x) (calls_answers xs (store_after t s x) (call_fits s h x) ∙ ap (answers (device_in t) xs) (call_store s h x))
 
   -- ---- accesses made again
 
@@ -88,7 +88,7 @@ module _ (t : Tables) (e : lawful t ≡ true) where
       by true false = rw e
 
   -- an answered access is safe to send again where its stored bits let it be made again
-  pub call_retry : (x : Access) → Answered t x → retry_of t x ≡ (if repeats (stored_fields t) x then Safe else Unsafe)
+  pub call_retry : (x : Access) → Answered t x → retry_of t x ≡ (if repeats (stored_fields t) x then gave Safe else (gave Unsafe))
   unfolding retry_of
   call_retry x h = ap (λ (n : ℕ). retry_with n (repeats (stored_fields t) x)) (call_retry_refusal x ∙ h)
 

@@ -1,5 +1,5 @@
 -- What lawful rows say of each register and of each field: what the functions of one register and of one field ask.
-use mathlib.Core.Path.{◌≡◌, refl, sym}
+use mathlib.Core.Path.{◌≡◌}
 use mathlib.Core.Bool.{true, false, not}
 use mathlib.Core.List.{List}
 use Prim.Native.Nat.{ℕ, zero, suc, ◌+◌, ◌-◌, ◌/◌, ◌<◌, ◌≤◌}
@@ -27,14 +27,14 @@ run-some all first r h = ltb-true 0 r.count (and_left (ltb 0 r.count) _ (and_rig
 module _ (t : Tables) (all i first : ℕ) (e : is_register_row t all i first ≡ true) where
   row_width : (register_row t.registers i).width ≤ 64
   unfolding is_register_row
-  row_width = placed_most (register_row t.registers i) {r = true} (sym (and_left (is_placed (register_row t.registers i)) _ e)) refl
+  row_width = placed_most (register_row t.registers i) (and_left (is_placed (register_row t.registers i)) _ e)
 
   is_run_lem : is_run all first (register_row t.registers i) ≡ true
   unfolding is_register_row
   is_run_lem = and_left (is_run all first (register_row t.registers i)) _ (and_right (is_placed (register_row t.registers i)) _ e)
 
   pub row_run : first + (register_row t.registers i).count ≤ all
-  row_run = run_fits all first (register_row t.registers i) {s = true} (sym is_run_lem) refl
+  row_run = run_fits all first (register_row t.registers i) is_run_lem
 
   pub row_some : 0 < (register_row t.registers i).count
   row_some = run-some all first (register_row t.registers i) is_run_lem
@@ -99,10 +99,10 @@ module _ (t : Tables) (e : lawful t ≡ true) where
   is_whole = and_left (are_whole (length t.registers) (length t.paths) (length t.fields) (length t.labels)) _ e
 
   pub rows_few : length t.registers / register_row_width ≤ register_limit
-  rows_few = few_registers (length t.registers) (length t.paths) (length t.fields) (length t.labels) {r = true} (sym is_whole) refl
+  rows_few = few_registers (length t.registers) (length t.paths) (length t.fields) (length t.labels) is_whole
 
   pub fields_few : length t.fields / field_row_width ≤ field_limit
-  fields_few = few_fields (length t.registers) (length t.paths) (length t.fields) (length t.labels) {r = true} (sym is_whole) refl
+  fields_few = few_fields (length t.registers) (length t.paths) (length t.fields) (length t.labels) is_whole
 
   pub all_within : (j : ℕ) → j < length t.fields / field_row_width → Within 64 (field_row t.fields j)
   unfolding lawful

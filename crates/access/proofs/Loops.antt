@@ -2,16 +2,14 @@
 use mathlib.Core.Bool.{Bool, true, false, not, ◌&&◌}
 use mathlib.Core.Path.{◌≡◌, refl, sym, ap, ap₂, ◌∙◌}
 use mathlib.Core.List.{List, [], ◌∷◌, ◌++◌}
-use Prim.Native.Nat.{ℕ, zero, suc, ◌+◌, ◌-◌, ◌/◌, ◌^◌, ◌<◌, ◌≤◌}
+use Prim.Native.Nat.{ℕ, zero, suc, ◌+◌, ◌-◌, ◌/◌, ◌<◌, ◌≤◌}
 use native.Mathlib.Omega.{arith}
 use lib.Bits.{bit_or}
-use lib.Dec.{leb}
 use lib.ListN.{length, get_or, set, drop}
 use lib.Seq.{drop-cons, set_at, append_snoc}
 use Rattle.basics.specs.Limits.{field_limit, register_row_width, field_row_width, index_bound}
 use Rattle.fields.specs.declared.FieldAt.{FieldAt}
 use Rattle.fields.specs.declared.Offset.{Offset}
-use Rattle.fields.specs.declared.Register.{Register}
 use Rattle.bits.specs.Bits.{bit, number}
 use Rattle.rows.specs.Rows.{Tables, tables}
 use Rattle.rows.specs.declared.RegisterRow.{RegisterRow}
@@ -21,7 +19,7 @@ use Rattle.model.specs.declared.Access.{Access}
 use Rattle.model.specs.Model.{size, number_after, stepped, field_gives, gives, bits_of, reaches_register}
 use Rattle.model.specs.Repeats.{repeats, all_below, repeats_bit}
 use Rattle.field_access.specs.Ranges.{ViewInRange}
-use Rattle.field_access.proofs.Tests.{failed, passed, fits_yes}
+use Rattle.field_access.proofs.Tests.{failed, passed}
 use Rattle.access.specs.Runs.{LawfulRows, Runs, RangedFields, register_of, stored_field, run_fields, row_fields, stored_rows, reached_rows, is_fitting, fitting_rows, reset_in, resets_from}
 use Rattle.access.proofs.Facts as facts
 use Rattle.model.proofs.Joined.{length-stepped, stepped_join, word_join, repeats_join}
@@ -173,56 +171,21 @@ pub ruleset joins_loop = (joins_start, joins_end, joins_on)
 
 -- ---- whether a register is reached
 
-module _ (a : Offset) (w : ℕ) (registers : List ℕ) (count : ℕ) where
-  pub reach_start : reached_rows a w registers 0 (count - 0) ≡ reached_rows a w registers 0 count
-  reach_start = rw (all_left count)
-
-  module _ (i : ℕ) {y : Bool} (left : reached_rows a w registers i (count - i) ≡ y) where
-    pub reach_end : count ≤ i → false ≡ y
-    unfolding reached_rows
-    reach_end h = rw (left_none count i h) at left
-
-    module _ {row : RegisterRow} {g : Register} {r : Bool} (h : i < count) (p : row ≡ register_row registers i) (q : g ≡ register_of row) (e : r ≡ reaches_register a w row.address g) where
-      reached_at : r ≡ reaches_register a w (register_row registers i).address (register_of (register_row registers i))
-      reached_at = e ∙ ap (reaches_register a w row.address) q ∙ ap (λ (o : RegisterRow). reaches_register a w o.address (register_of o)) p
-
-      pub reach_stop : r ≡ true → true ≡ y
-      unfolding reached_rows
-      reach_stop z = rw (rows_more count i h, sym reached_at ∙ z) at left
-
-      pub reach_on : r ≡ false → reached_rows a w registers (i + 1) (count - (i + 1)) ≡ y
-      unfolding reached_rows
-      reach_on z = rw (next_k i) (rw (rows_more count i h, sym reached_at ∙ z) at left)
-
-pub ruleset reach_loop = (reach_start, reach_end, reach_stop, reach_on)
+module _ (a : Offset) (w : ℕ) (registers : List ℕ) (i count : ℕ) {y : Bool} where
+  pub reach_on : (row : RegisterRow) → row ≡ register_row registers i → i < count → reached_rows a w registers i (count - i) ≡ y
+      → reaches_register a w row.address (register_of row) ≡ false → reached_rows a w registers (i + 1) (count - (i + 1)) ≡ y
+  unfolding reached_rows
+  reach_on row p h left e = rw (next_k i) (rw (rows_more count i h, rw p at e) at left)
 
 -- ---- whether the store fits
 
-pub fits_field : (v : ℕ) (f : FieldAt) {r : Bool} → r ≡ leb (2 ^ (f.high.0 + 1 - f.low.0)) v → not r ≡ is_fitting v f
-fits_field v f e = fits_yes true v (f.high.0 + 1 - f.low.0) {r = true} refl refl e
+module _ (fields s : List ℕ) (j count : ℕ) {y : Bool} where
+  pub fit_on : (f : FieldAt) → f ≡ field_row fields j → j < count → fitting_rows fields s j (count - j) ≡ y → is_fitting (get_or s j 0) f ≡ true
+      → fitting_rows fields s (j + 1) (count - (j + 1)) ≡ y
+  unfolding fitting_rows
+  fit_on f p h left e = rw (next_k j) (rw (rows_more count j h, rw p at e) at left)
 
-module _ (fields s : List ℕ) (count : ℕ) where
-  pub fit_start : fitting_rows fields s 0 (count - 0) ≡ fitting_rows fields s 0 count
-  fit_start = rw (all_left count)
-
-  module _ (j : ℕ) {y : Bool} (left : fitting_rows fields s j (count - j) ≡ y) where
-    pub fit_end : count ≤ j → true ≡ y
-    unfolding fitting_rows
-    fit_end h = rw (left_none count j h) at left
-
-    module _ {f : FieldAt} {r : Bool} (h : j < count) (p : f ≡ field_row fields j) (e : r ≡ is_fitting (get_or s j 0) f) where
-      fitting_at : r ≡ is_fitting (get_or s j 0) (field_row fields j)
-      fitting_at = rw (← p) e
-
-      pub fit_stop : not r ≡ true → false ≡ y
-      unfolding fitting_rows
-      fit_stop z = rw (rows_more count j h, failed fitting_at z) at left
-
-      pub fit_on : not r ≡ false → fitting_rows fields s (j + 1) (count - (j + 1)) ≡ y
-      unfolding fitting_rows
-      fit_on z = rw (next_k j) (rw (rows_more count j h, passed fitting_at z) at left)
-
-pub ruleset fit_loop = (fit_start, fit_end, fit_stop, fit_on)
+pub ruleset fit_loop = (fit_on, field_order, field_top)
 
 -- ---- a reset
 
@@ -261,50 +224,30 @@ pub ruleset reset_loop = (reset_start, reset_end, reset_on)
 
 -- ---- fields that let an access be made again
 
-module _ (x : Access) (row : RegisterRow) (fields : List ℕ) (first count : ℕ) where
-  pub again_start : repeats (run_fields row fields (first + 0) (count - 0)) x ≡ repeats (run_fields row fields first count) x
-  again_start = rw (at_start_lem first, all_left count)
+module _ (x : Access) (row : RegisterRow) (fields : List ℕ) (first count k : ℕ) {y : Bool} where
+  pub again_on : (f : FieldAt) (c : View) → f ≡ field_row fields (first + k) → c ≡ stored_field row f (first + k) → k < count
+      → repeats (run_fields row fields (first + k) (count - k)) x ≡ y → all_below (size c) (repeats_bit x c) ≡ true
+      → repeats (run_fields row fields (first + (k + 1)) (count - (k + 1))) x ≡ y
+  unfolding run_fields repeats
+  again_on f c p q h left e =
+      let at : all_below (size (stored_field row (field_row fields (first + k)) (first + k))) (repeats_bit x (stored_field row (field_row fields (first + k)) (first + k))) ≡ true =
+      rw (field_at row fields (first + k) p q) at e in
+      rw (next_at first k) (rw (left_more count k h, at) at left)
 
-  module _ (k : ℕ) {y : Bool} (left : repeats (run_fields row fields (first + k) (count - k)) x ≡ y) where
-    pub again_end : count ≤ k → true ≡ y
-    unfolding run_fields repeats
-    again_end h = rw (left_none count k h) at left
+module _ (x : Access) (registers fields : List ℕ) (i count : ℕ) {y : Bool} {row : RegisterRow} {r : Bool} (left : repeats (stored_rows registers fields i (count - i)) x ≡ y) (h : i < count) (p : row ≡ register_row registers i) (e : r ≡ repeats (row_fields row fields) x) where
+  repeat_at : r ≡ repeats (row_fields (register_row registers i) fields) x
+  repeat_at = rw (← p) e
 
-    module _ {f : FieldAt} {c : View} {r : Bool} (h : k < count) (p : f ≡ field_row fields (first + k)) (q : c ≡ stored_field row f (first + k)) (e : r ≡ all_below (size c) (repeats_bit x c)) where
-      again_at : r ≡ all_below (size (stored_field row (field_row fields (first + k)) (first + k))) (repeats_bit x (stored_field row (field_row fields (first + k)) (first + k)))
-      again_at = e ∙ ap (λ (o : View). all_below (size o) (repeats_bit x o)) (field_at row fields (first + k) p q)
+  rest_joined : (repeats (row_fields (register_row registers i) fields) x && repeats (stored_rows registers fields (suc i) (count - suc i)) x) ≡ y
+  unfolding stored_rows
+  rest_joined = sym (repeats_join x (row_fields (register_row registers i) fields) (stored_rows registers fields (suc i) (count - suc i))) ∙ (rw (rows_more count i h) at left)
 
-      pub again_stop : not r ≡ true → false ≡ y
-      unfolding run_fields repeats
-      again_stop z = rw (left_more count k h, failed again_at z) at left
+  pub repeat_stop : not r ≡ true → false ≡ y
+  repeat_stop z = rw (failed repeat_at z) at rest_joined
 
-      pub again_on : not r ≡ false → repeats (run_fields row fields (first + (k + 1)) (count - (k + 1))) x ≡ y
-      unfolding run_fields repeats
-      again_on z = rw (next_at first k) (rw (left_more count k h, passed again_at z) at left)
+  pub repeat_on : not r ≡ false → repeats (stored_rows registers fields (i + 1) (count - (i + 1))) x ≡ y
+  repeat_on z = rw (next_k i) (rw (passed repeat_at z) at rest_joined)
 
-pub ruleset again_loop = (again_start, again_end, again_stop, again_on)
-
-module _ (x : Access) (registers fields : List ℕ) (count : ℕ) where
-  pub repeat_start : repeats (stored_rows registers fields 0 (count - 0)) x ≡ repeats (stored_rows registers fields 0 count) x
-  repeat_start = rw (all_left count)
-
-  module _ (i : ℕ) {y : Bool} (left : repeats (stored_rows registers fields i (count - i)) x ≡ y) where
-    pub repeat_end : count ≤ i → true ≡ y
-    unfolding stored_rows repeats
-    repeat_end h = rw (left_none count i h) at left
-
-    module _ {row : RegisterRow} {r : Bool} (h : i < count) (p : row ≡ register_row registers i) (e : r ≡ repeats (row_fields row fields) x) where
-      repeat_at : r ≡ repeats (row_fields (register_row registers i) fields) x
-      repeat_at = rw (← p) e
-
-      rest_joined : (repeats (row_fields (register_row registers i) fields) x && repeats (stored_rows registers fields (suc i) (count - suc i)) x) ≡ y
-      unfolding stored_rows
-      rest_joined = sym (repeats_join x (row_fields (register_row registers i) fields) (stored_rows registers fields (suc i) (count - suc i))) ∙ (rw (rows_more count i h) at left)
-
-      pub repeat_stop : not r ≡ true → false ≡ y
-      repeat_stop z = rw (failed repeat_at z) at rest_joined
-
-      pub repeat_on : not r ≡ false → repeats (stored_rows registers fields (i + 1) (count - (i + 1))) x ≡ y
-      repeat_on z = rw (next_k i) (rw (passed repeat_at z) at rest_joined)
-
-pub ruleset repeat_loop = (repeat_start, repeat_end, repeat_stop, repeat_on)
+pub repeat_end : (x : Access) (registers fields : List ℕ) (i count : ℕ) {y : Bool} → repeats (stored_rows registers fields i (count - i)) x ≡ y → count ≤ i → true ≡ y
+unfolding stored_rows repeats
+repeat_end x registers fields i count left h = rw (left_none count i h) at left

@@ -9,8 +9,6 @@ use lib.ListN.{length, get_or, drop}
 use lib.Pow.{pow_pos}
 use borrow.Author.Tests.{lt-ltb, leb-false}
 use lib.Seq.{drop-cons}
-use Rattle.basics.specs.declared.Given.{Given}
-use Rattle.basics.specs.declared.Given.TheVariants.{Nothing, Number}
 use Rattle.basics.specs.Given.{or_else}
 use Rattle.basics.specs.Limits.{field_row_width}
 use Rattle.fields.specs.declared.FieldAt.{FieldAt}
@@ -24,6 +22,7 @@ use Rattle.access.specs.Perform.{resets}
 use Rattle.access.specs.Runs.{is_fitting, fitting_rows, reset_in, resets_from}
 use Rattle.access.proofs.Facts.{all_within}
 use Rattle.access.proofs.Fields.{at_rows, fields_at, stored_at, stored_count}
+use Rattle.std.specs.Prelude.{Option, Some, None}
 
 -- ---- whether the store fits
 
@@ -82,9 +81,9 @@ narrow_fits f e = by f.values.reset e
     same : suc f.high.0 - f.low.0 ≡ f.high.0 + 1 - f.low.0
     same = omega arith
 
-    by : (g : Given) → is_wide g (suc f.high.0 - f.low.0) ≡ false → ltb (or_else 0 g) (2 ^ (f.high.0 + 1 - f.low.0)) ≡ true
-    by Nothing q = lt-ltb 0 (2 ^ (f.high.0 + 1 - f.low.0)) (pow_pos (f.high.0 + 1 - f.low.0))
-    by (Number n) q = lt-ltb n (2 ^ (f.high.0 + 1 - f.low.0)) (rw same at (leb-false (2 ^ (suc f.high.0 - f.low.0)) n q))
+    by : (g : Option ℕ) → is_wide g (suc f.high.0 - f.low.0) ≡ false → ltb (or_else 0 g) (2 ^ (f.high.0 + 1 - f.low.0)) ≡ true
+    by None q = lt-ltb 0 (2 ^ (f.high.0 + 1 - f.low.0)) (pow_pos (f.high.0 + 1 - f.low.0))
+    by (Some n) q = lt-ltb n (2 ^ (f.high.0 + 1 - f.low.0)) (rw same at (leb-false (2 ^ (suc f.high.0 - f.low.0)) n q))
 
 resets_fit : (fields rest : List ℕ) (j n : ℕ) → ((k : ℕ) → j ≤ k → k < j + n → is_reset_wide (field_row fields k) ≡ false)
     → fits_at (at_rows fields j n) (resets_at (at_rows fields j n) ++ rest) ≡ true

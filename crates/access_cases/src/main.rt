@@ -2,26 +2,15 @@
 // a u32 count, and so many commands of four little-endian u64 numbers each. tests/access_cases.py makes the cases.
 #![tactic(auto)]
 
-ghost use Rattle.std.specs.Prelude.{◌<◌, ◌≤◌};
-
-use access::{Restored, Retried};
-use case_io::{LONGEST_TEXT, Length, MOST_CASES};
-use compile::Compiled;
+use access::{Resend, Restored, Retried};
+use case_io::{LONGEST_TEXT, MOST_CASES};
 use fields::Offset;
 use model::{Access, Answer};
 use std::io;
 use std::io::{Read, Write};
 
-// The rows that the tables hold: as many as a map may have; and a store with some numbers more.
-const REGISTERS: usize = 14336;
-
-const PATHS: usize = 294912;
-
-const FIELDS: usize = 32768;
-
-const LABELS: usize = 131072;
-
-const STORE: usize = 4104;
+// A store with some numbers more than a map may have fields.
+const STORE: usize = basics::FIELD_LIMIT + 8;
 
 // What stands in the store before the first reset.
 const UNTOUCHED: u64 = 77;
@@ -29,8 +18,8 @@ const UNTOUCHED: u64 = 77;
 // The numbers that the store has past the last row.
 const PAST: usize = 2;
 
-// The part of each table, and of the store, that is lent to a call.
-#[derive(Clone, Copy)]
+// How much of each table, and of the store, is lent to a call.
+#[derive(Clone, Copy, Default)]
 struct Lengths {
     registers: usize,
     paths: usize,
@@ -39,19 +28,47 @@ struct Lengths {
     store: usize,
 }
 
-// A command: what to do, and three numbers.
-#[derive(Clone, Copy)]
-struct Command {
-    code: u64,
-    a: u64,
-    b: u64,
-    c: u64,
+// The tables of a map and a store.
+#[derive(Drop)]
+struct Tables {
+    registers: [u64; reply::REGISTERS],
+    paths: [u8; reply::PATHS],
+    fields: [u64; reply::FIELDS],
+    labels: [u8; reply::LABELS],
+    store: [u64; STORE],
+    lent: Lengths,
 }
 
-fn at_most(n: usize, most: usize) -> usize
-    ensures { result ≤ most }
-{
-    if n < most { n } else { most }
+// The parts of the tables that are lent to a call.
+#[derive(Clone, Copy)]
+struct Rows<'a> {
+    registers: &'a [u64],
+    paths: &'a [u8],
+    fields: &'a [u64],
+    labels: &'a [u8],
+}
+
+// What is called with the lent parts, or their store is shown.
+#[derive(Clone, Copy)]
+enum Call {
+    Reset,
+    Make(Access),
+    Show,
+}
+
+// A command: a number is put into a table, so much of a table is lent from now on, or a call. Table 4 is the store.
+#[derive(Clone, Copy)]
+enum Command {
+    Put {
+        table: u64,
+        index: usize,
+        number: u64,
+    },
+    Lend {
+        table: u64,
+        length: usize,
+    },
+    Call(Call),
 }
 
 fn put_line<W: Write>(out: &mut W, label: &[u8], n: u64) -> io::Result<()> {
@@ -59,100 +76,109 @@ fn put_line<W: Write>(out: &mut W, label: &[u8], n: u64) -> io::Result<()> {
     case_io::put(out, b"\n")
 }
 
-// Number `index` of a command's bytes.
-fn number_at(bytes: &[u8; 32], index: usize) -> u64
-    requires { index < 4 }
-{
-    let mut value: u64 = 0;
-    let mut k: usize = 8;
-    while k > 0 {
-        k -= 1;
-        value = (value << 8) | (case_io::wide(bytes[index * 8 + k]) as u64);
+fn read_number<R: Read>(input: &mut R) -> io::Result<u64> {
+    let mut bytes = [0u8; 8];
+    streams::fill(input, &mut bytes)?;
+    Ok(u64::from_le_bytes(bytes))
+}
+
+// The command of a code and three numbers: 0 is a reset, 1 a read, 2 a write, 3 a put, 4 lends, and 5 shows the store.
+fn command_of(code: u64, a: u64, b: u64, c: u64) -> Command {
+    let address = Offset(a);
+    match code {
+        0 => Command::Call(Call::Reset),
+        1 => Command::Call(Call::Make(Access::Read { address, width: b })),
+        2 => Command::Call(Call::Make(Access::Write {
+            address,
+            width: b,
+            word: c,
+        })),
+        3 => Command::Put {
+            table: a,
+            index: b as usize,
+            number: c,
+        },
+        4 => Command::Lend {
+            table: a,
+            length: b as usize,
+        },
+        _ => Command::Call(Call::Show),
     }
-    value
 }
 
 fn read_command<R: Read>(input: &mut R) -> io::Result<Command> {
-    let mut bytes = [0u8; 32];
-    streams::fill(input, &mut bytes)?;
-    let code = number_at(&bytes, 0);
-    let a = number_at(&bytes, 1);
-    let b = number_at(&bytes, 2);
-    let c = number_at(&bytes, 3);
-    Ok(Command { code, a, b, c })
+    let code = read_number(input)?;
+    let a = read_number(input)?;
+    let b = read_number(input)?;
+    let c = read_number(input)?;
+    Ok(command_of(code, a, b, c))
 }
 
 fn put_answer<W: Write>(out: &mut W, answer: Answer) -> io::Result<()> {
     match answer {
-        Answer::Refused(number) => case_io::put_number(out, b"refused=", number as u64),
-        Answer::Word(word) => case_io::put_number(out, b"word=", word),
+        Ok(word) => case_io::put_number(out, b"word=", word),
+        Err(rule) => case_io::put_number(out, b"refused=", rule.number() as u64),
     }
 }
 
-fn put_retry<W: Write>(out: &mut W, retry: Retried) -> io::Result<()> {
-    match retry {
-        Retried::Refused(number) => put_line(out, b" retry refused=", number as u64),
-        Retried::Safe => case_io::put(out, b" retry=safe\n"),
-        Retried::Unsafe => case_io::put(out, b" retry=unsafe\n"),
+fn put_retry<W: Write>(out: &mut W, retried: Retried) -> io::Result<()> {
+    match retried {
+        Ok(Resend::Safe) => case_io::put(out, b" retry=safe\n"),
+        Ok(Resend::Unsafe) => case_io::put(out, b" retry=unsafe\n"),
+        Err(rule) => put_line(out, b" retry refused=", rule.number() as u64),
     }
 }
 
 fn put_restored<W: Write>(out: &mut W, restored: Restored) -> io::Result<()> {
     match restored {
-        Restored::Refused(number) => put_line(out, b"reset refused=", number as u64),
-        Restored::Written(count) => put_line(out, b"reset=", count as u64),
+        Ok(count) => put_line(out, b"reset=", count as u64),
+        Err(rule) => put_line(out, b"reset refused=", rule.number() as u64),
     }
 }
 
-// The access of a command: 1 is a read, all else a write.
-fn access_of(command: Command) -> Access {
-    let address = Offset(command.a);
-    if command.code == 1 {
-        return Access::Read {
-            address,
-            width: command.b,
-        };
-    }
-    Access::Write {
-        address,
-        width: command.b,
-        word: command.c,
-    }
+// Resets the lent part of the store.
+fn reset(rows: Rows<'_>, store: &mut [u64]) -> Restored {
+    access::reset(rows.registers, rows.paths, rows.fields, rows.labels, store)
 }
 
 // Makes a read or a write on the lent parts.
-fn make_access(
-    registers: &[u64],
-    paths: &[u8],
-    fields: &[u64],
-    labels: &[u8],
-    store: &mut [u64],
-    command: Command,
-) -> Answer {
-    let address = Offset(command.a);
-    let width = command.b;
-    if command.code == 1 {
-        return access::read(registers, paths, fields, labels, store, address, width);
+fn make_access(rows: Rows<'_>, store: &mut [u64], wanted: Access) -> Answer {
+    match wanted {
+        Access::Read { address, width } => access::read(
+            rows.registers,
+            rows.paths,
+            rows.fields,
+            rows.labels,
+            store,
+            address,
+            width,
+        ),
+        Access::Write {
+            address,
+            width,
+            word,
+        } => access::write(
+            rows.registers,
+            rows.paths,
+            rows.fields,
+            rows.labels,
+            store,
+            address,
+            width,
+            word,
+        ),
     }
-    let word = command.c;
-    access::write(
-        registers, paths, fields, labels, store, address, width, word,
-    )
 }
 
 // Makes an access, and asks whether it may be sent again.
 fn run_access<W: Write>(
     out: &mut W,
-    registers: &[u64],
-    paths: &[u8],
-    fields: &[u64],
-    labels: &[u8],
+    rows: Rows<'_>,
     store: &mut [u64],
-    command: Command,
+    wanted: Access,
 ) -> io::Result<()> {
-    let retried = access::retry(registers, paths, fields, labels, access_of(command));
-    let answer = make_access(registers, paths, fields, labels, store, command);
-    put_answer(out, answer)?;
+    let retried = access::retry(rows.registers, rows.paths, rows.fields, rows.labels, wanted);
+    put_answer(out, make_access(rows, store, wanted))?;
     put_retry(out, retried)
 }
 
@@ -163,211 +189,126 @@ fn show_store<W: Write>(out: &mut W, store: &[u64]) -> io::Result<()> {
     case_io::put(out, b"\n")
 }
 
-// Commands on the lent parts: 0 is a reset, 1 a read, 2 a write, 5 shows the store.
-fn run_lent<W: Write>(
+fn run_call<W: Write>(
     out: &mut W,
-    registers: &[u64],
-    paths: &[u8],
-    fields: &[u64],
-    labels: &[u8],
+    rows: Rows<'_>,
     store: &mut [u64],
-    command: Command,
+    call: Call,
 ) -> io::Result<()> {
-    match command.code {
-        0 => put_restored(out, access::reset(registers, paths, fields, labels, store)),
-        1 | 2 => run_access(out, registers, paths, fields, labels, store, command),
-        _ => show_store(out, store),
+    match call {
+        Call::Reset => put_restored(out, reset(rows, store)),
+        Call::Make(wanted) => run_access(out, rows, store, wanted),
+        Call::Show => show_store(out, store),
     }
 }
 
-fn put_in(numbers: &mut [u64], command: Command) {
-    let i = command.b as usize;
-    if i < numbers.len() {
-        numbers[i] = command.c;
+fn put_in<T: Copy>(cells: &mut [T], index: usize, value: T) {
+    if index < cells.len() {
+        cells[index] = value;
     }
 }
 
-fn put_byte(bytes: &mut [u8], command: Command) {
-    let i = command.b as usize;
-    if i < bytes.len() {
-        bytes[i] = (command.c % 256) as u8;
-    }
+// The first cells of a table, as far as it goes.
+fn first<T>(cells: &[T], length: usize) -> &[T] {
+    cells.get(..length).unwrap_or(cells)
 }
 
-// Command 4: so much of a table, or of the store, is lent from now on.
-fn cut(lengths: Lengths, command: Command) -> Lengths {
-    let mut now = lengths;
-    let table = command.a;
-    let n = command.b as usize;
-    match table {
-        0 => now.registers = n,
-        1 => now.paths = n,
-        2 => now.fields = n,
-        3 => now.labels = n,
-        _ => now.store = n,
-    }
-    now
-}
-
-// Command 3: puts a number into a table, or into the store.
-fn put_number(
-    registers: &mut [u64],
-    paths: &mut [u8],
-    fields: &mut [u64],
-    labels: &mut [u8],
-    store: &mut [u64],
-    command: Command,
-) {
-    let table = command.a;
-    match table {
-        0 => put_in(registers, command),
-        1 => put_byte(paths, command),
-        2 => put_in(fields, command),
-        3 => put_byte(labels, command),
-        _ => put_in(store, command),
-    }
-}
-
-// Runs a command on the parts of the tables and of the store that are lent.
-fn run_on_parts<W: Write>(
-    out: &mut W,
-    registers: &[u64],
-    paths: &[u8],
-    fields: &[u64],
-    labels: &[u8],
-    store: &mut [u64],
-    lengths: Lengths,
-    command: Command,
-) -> io::Result<()> {
-    let registers_end = at_most(lengths.registers, registers.len());
-    let paths_end = at_most(lengths.paths, paths.len());
-    let fields_end = at_most(lengths.fields, fields.len());
-    let labels_end = at_most(lengths.labels, labels.len());
-    let store_end = at_most(lengths.store, store.len());
-    run_lent(
-        out,
-        &registers[..registers_end],
-        &paths[..paths_end],
-        &fields[..fields_end],
-        &labels[..labels_end],
-        &mut store[..store_end],
-        command,
-    )
-}
-
-// Runs a command, and answers what is lent from then on.
-fn run_command<W: Write>(
-    out: &mut W,
-    registers: &mut [u64],
-    paths: &mut [u8],
-    fields: &mut [u64],
-    labels: &mut [u8],
-    store: &mut [u64],
-    lengths: Lengths,
-    command: Command,
-) -> io::Result<Lengths> {
-    match command.code {
-        3 => {
-            put_number(registers, paths, fields, labels, store, command);
-            Ok(lengths)
-        }
-        4 => Ok(cut(lengths, command)),
-        _ => {
-            run_on_parts(
-                out, registers, paths, fields, labels, store, lengths, command,
-            )?;
-            Ok(lengths)
+impl Tables {
+    // Puts a number into a table, or into the store.
+    fn put(&mut self, table: u64, index: usize, number: u64) {
+        match table {
+            0 => put_in(&mut self.registers, index, number),
+            1 => put_in(&mut self.paths, index, (number % 256) as u8),
+            2 => put_in(&mut self.fields, index, number),
+            3 => put_in(&mut self.labels, index, (number % 256) as u8),
+            _ => put_in(&mut self.store, index, number),
         }
     }
-}
 
-// Compiles a text: the rows are lent whole, the store with some numbers more.
-fn open_map<W: Write>(
-    out: &mut W,
-    text: &[u8],
-    registers: &mut [u64],
-    paths: &mut [u8],
-    fields: &mut [u64],
-    labels: &mut [u8],
-) -> io::Result<Lengths> {
-    match compile::compile(text, registers, paths, fields, labels) {
-        Compiled::Refused(number, _) => {
-            put_line(out, b"text refused=", number as u64)?;
-            Ok(Lengths {
-                registers: 0,
-                paths: 0,
-                fields: 0,
-                labels: 0,
-                store: 0,
-            })
+    // Lends so much of a table, or of the store.
+    fn lend(&mut self, table: u64, length: usize) {
+        match table {
+            0 => self.lent.registers = length,
+            1 => self.lent.paths = length,
+            2 => self.lent.fields = length,
+            3 => self.lent.labels = length,
+            _ => self.lent.store = length,
         }
-        Compiled::Accepted(count, all) => {
-            let n = at_most(count, 1024);
-            let m = at_most(all, 4096);
-            Ok(Lengths {
-                registers: n * basics::REGISTER_ROW_WIDTH,
-                paths: n * basics::PATH_ROW_WIDTH,
-                fields: m * basics::FIELD_ROW_WIDTH,
-                labels: m * basics::NAME_WIDTH,
-                store: m + PAST,
-            })
+    }
+
+    // Compiles a text: the rows are lent whole, the store with some numbers more.
+    fn open<W: Write>(&mut self, out: &mut W, text: &[u8]) -> io::Result<()> {
+        match compile::compile(
+            text,
+            &mut self.registers,
+            &mut self.paths,
+            &mut self.fields,
+            &mut self.labels,
+        ) {
+            Ok(counts) => {
+                let n = counts.registers.min(basics::REGISTER_LIMIT);
+                let m = counts.fields.min(basics::FIELD_LIMIT);
+                self.lent = Lengths {
+                    registers: n * basics::REGISTER_ROW_WIDTH,
+                    paths: n * basics::PATH_ROW_WIDTH,
+                    fields: m * basics::FIELD_ROW_WIDTH,
+                    labels: m * basics::NAME_WIDTH,
+                    store: m + PAST,
+                };
+                Ok(())
+            }
+            Err(refusal) => put_line(out, b"text refused=", refusal.rule.number() as u64),
         }
+    }
+
+    // Runs a call on the parts of the tables and of the store that are lent.
+    fn call<W: Write>(&mut self, out: &mut W, call: Call) -> io::Result<()> {
+        let rows = Rows {
+            registers: first(&self.registers, self.lent.registers),
+            paths: first(&self.paths, self.lent.paths),
+            fields: first(&self.fields, self.lent.fields),
+            labels: first(&self.labels, self.lent.labels),
+        };
+        let store = &mut self.store[..];
+        let end = self.lent.store.min(store.len());
+        run_call(out, rows, &mut store[..end], call)
+    }
+
+    fn run<W: Write>(&mut self, out: &mut W, command: Command) -> io::Result<()> {
+        match command {
+            Command::Put {
+                table,
+                index,
+                number,
+            } => self.put(table, index, number),
+            Command::Lend { table, length } => self.lend(table, length),
+            Command::Call(call) => self.call(out, call)?,
+        }
+        Ok(())
     }
 }
 
-// Reads and runs so many commands.
-fn run_commands<R: Read, W: Write>(
-    input: &mut R,
-    out: &mut W,
-    registers: &mut [u64],
-    paths: &mut [u8],
-    fields: &mut [u64],
-    labels: &mut [u8],
-    store: &mut [u64],
-    start: Lengths,
-    commands: usize,
-) -> io::Result<()> {
-    let mut lengths = start;
-    for _ in 0..commands {
-        let command = read_command(input)?;
-        lengths = run_command(
-            out, registers, paths, fields, labels, store, lengths, command,
-        )?;
-    }
-    Ok(())
-}
-
-// Runs the commands of a case on fresh tables.
+// Reads and runs so many commands on a map and fresh tables.
 fn run_on_map<R: Read, W: Write>(
     input: &mut R,
     out: &mut W,
     text: &[u8],
     commands: usize,
 ) -> io::Result<()> {
-    let mut registers = [0u64; REGISTERS];
-    let mut paths = [0u8; PATHS];
-    let mut fields = [0u64; FIELDS];
-    let mut labels = [0u8; LABELS];
-    let mut store = [UNTOUCHED; STORE];
-    let lengths = open_map(
-        out,
-        text,
-        &mut registers,
-        &mut paths,
-        &mut fields,
-        &mut labels,
-    )?;
-    run_commands(
-        input,
-        out,
-        &mut registers,
-        &mut paths,
-        &mut fields,
-        &mut labels,
-        &mut store,
-        lengths,
-        commands,
-    )
+    let mut tables = Tables {
+        registers: [0; reply::REGISTERS],
+        paths: [0; reply::PATHS],
+        fields: [0; reply::FIELDS],
+        labels: [0; reply::LABELS],
+        store: [UNTOUCHED; STORE],
+        lent: Lengths::default(),
+    };
+    tables.open(out, text)?;
+    for _ in 0..commands {
+        let command = read_command(input)?;
+        tables.run(out, command)?;
+    }
+    Ok(())
 }
 
 // Runs the next case; answers whether there was one.
@@ -377,14 +318,12 @@ fn run_case<R: Read, W: Write>(
     case: u64,
     room: &mut [u8],
 ) -> io::Result<bool> {
-    let text = case_io::read_text(input, room)?;
-    if !text.whole {
+    let Some(length) = case_io::read_text(input, room)? else {
         return Ok(false);
-    }
+    };
     put_line(out, b"case ", case)?;
-    match case_io::read_length(input)? {
-        Length::Of(commands) => run_on_map(input, out, &room[..text.length], commands)?,
-        Length::Missing => {}
+    if let Some(commands) = case_io::read_length(input)? {
+        run_on_map(input, out, &room[..length], commands)?;
     }
     Ok(true)
 }

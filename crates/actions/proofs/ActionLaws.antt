@@ -3,7 +3,6 @@ use mathlib.Core.Path.{◌≡◌, refl, sym}
 use mathlib.Core.Bool.{Bool, true, false}
 use mathlib.Core.Logic.{◌⊎◌, inl, inr, ⊎_elim}
 use Prim.Native.Nat.{ℕ}
-use native.Mathlib.Omega.{arith}
 use lib.Dec.{eqb}
 use borrow.Author.Tests.{eqb-true, ne_eqb}
 use Rattle.std.specs.Prelude.{if◌then◌else◌}
@@ -65,22 +64,22 @@ inverted_only : (b1 b2 b3 b4 b5 b6 b7 b8 b : Bool)
     if b4 then on_zero b Set else if b5 then on_zero b Cleared else if b6 then on_zero b Inverted else
     if b7 then Cleared else if b8 then Set else copied b) ≡ Inverted
     → ((b3 ≡ true) × (b ≡ true)) ⊎ ((b6 ≡ true) × (b ≡ false))
-inverted_only true b2 b3 b4 b5 b6 b7 b8 true e = absurd (let z : ◌≡◌ {A = ℕ} 0 1 = cc in omega arith)
-inverted_only true b2 b3 b4 b5 b6 b7 b8 false e = absurd (let z : ◌≡◌ {A = ℕ} 0 1 = cc in omega arith)
-inverted_only false true b3 b4 b5 b6 b7 b8 true e = absurd (let z : ◌≡◌ {A = ℕ} 0 1 = cc in omega arith)
-inverted_only false true b3 b4 b5 b6 b7 b8 false e = absurd (let z : ◌≡◌ {A = ℕ} 0 1 = cc in omega arith)
+inverted_only true b2 b3 b4 b5 b6 b7 b8 true e = cc
+inverted_only true b2 b3 b4 b5 b6 b7 b8 false e = cc
+inverted_only false true b3 b4 b5 b6 b7 b8 true e = cc
+inverted_only false true b3 b4 b5 b6 b7 b8 false e = cc
 inverted_only false false true b4 b5 b6 b7 b8 true e = inl (refl, refl)
-inverted_only false false true b4 b5 b6 b7 b8 false e = absurd (let z : ◌≡◌ {A = ℕ} 0 1 = cc in omega arith)
-inverted_only false false false true b5 b6 b7 b8 true e = absurd (let z : ◌≡◌ {A = ℕ} 0 1 = cc in omega arith)
-inverted_only false false false true b5 b6 b7 b8 false e = absurd (let z : ◌≡◌ {A = ℕ} 0 1 = cc in omega arith)
-inverted_only false false false false true b6 b7 b8 true e = absurd (let z : ◌≡◌ {A = ℕ} 0 1 = cc in omega arith)
-inverted_only false false false false true b6 b7 b8 false e = absurd (let z : ◌≡◌ {A = ℕ} 0 1 = cc in omega arith)
-inverted_only false false false false false true b7 b8 true e = absurd (let z : ◌≡◌ {A = ℕ} 0 1 = cc in omega arith)
+inverted_only false false true b4 b5 b6 b7 b8 false e = cc
+inverted_only false false false true b5 b6 b7 b8 true e = cc
+inverted_only false false false true b5 b6 b7 b8 false e = cc
+inverted_only false false false false true b6 b7 b8 true e = cc
+inverted_only false false false false true b6 b7 b8 false e = cc
+inverted_only false false false false false true b7 b8 true e = cc
 inverted_only false false false false false true b7 b8 false e = inr (refl, refl)
-inverted_only false false false false false false true b8 b e = absurd (let z : ◌≡◌ {A = ℕ} 0 1 = cc in omega arith)
-inverted_only false false false false false false false true b e = absurd (let z : ◌≡◌ {A = ℕ} 0 1 = cc in omega arith)
-inverted_only false false false false false false false false true e = absurd (let z : ◌≡◌ {A = ℕ} 0 1 = cc in omega arith)
-inverted_only false false false false false false false false false e = absurd (let z : ◌≡◌ {A = ℕ} 0 1 = cc in omega arith)
+inverted_only false false false false false false true b8 b e = cc
+inverted_only false false false false false false false true b e = cc
+inverted_only false false false false false false false false true e = cc
+inverted_only false false false false false false false false false e = cc
 
 -- a write inverts only by a 1 where 1 inverts, or by a 0 where 0 does
 pub write_inverts : (code : ℕ) (b : Bool) → write_action code b ≡ Inverted

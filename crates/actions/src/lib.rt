@@ -32,6 +32,7 @@ fn copied_bit(one: bool) -> Action
 }
 
 // The write-effect codes, as the rows hold them: none 0, woset 1, woclr 2, wot 3, wzs 4, wzc 5, wzt 6, wclr 7, wset 8.
+#[tactic(auto, unfolding(crate::specs::Actions::write_action))]
 pub fn write_action(code: u64, one: bool) -> Action
     ensures { result ≡ write_action code one }
 {
@@ -49,6 +50,7 @@ pub fn write_action(code: u64, one: bool) -> Action
 }
 
 // The read-effect codes: none 0, rclr 1, rset 2.
+#[tactic(auto, unfolding(crate::specs::Actions::read_action))]
 pub fn read_action(code: u64) -> Action
     ensures { result ≡ read_action code }
 {

@@ -3,9 +3,7 @@ use mathlib.Core.Path.{◌≡◌, refl}
 use mathlib.Core.Bool.{Bool, true, false}
 use Prim.Native.Nat.{ℕ}
 use native.Mathlib.Omega.{arith}
-use Rattle.basics.specs.declared.Fault.{Fault}
-use Rattle.basics.specs.declared.Fault.TheVariants.{None, Refused}
-use Rattle.basics.specs.Judged.{Judged, fault, fine, onward, unless, found}
+use Rattle.basics.specs.Judged.{Judged, fault, fine, onward, unless, found, Verdict, Accepted, Refused}
 
 -- what holds of a result, if there is one
 pub data Each {A : Type 0} (P : A → Type 0) : Judged A → Type 0 where
@@ -18,8 +16,8 @@ module _ {A : Type 0} (P : A → Type 0) where
   each_unless true n p h = each_fault
   each_unless false n p h = h refl
 
-  pub each_found : (f : Fault) {j : Judged A} → (f ≡ None → Each P j) → Each P (found f j)
-  each_found None h = h refl
+  pub each_found : (f : Verdict) {j : Judged A} → (f ≡ Accepted → Each P j) → Each P (found f j)
+  each_found Accepted h = h refl
   each_found (Refused n p) h = each_fault
 
   pub each_of : {j : Judged A} {a : A} → Each P j → j ≡ fine a → P a

@@ -1,26 +1,22 @@
 -- A number that may be given.
-use Rattle.std.specs.Prelude.{Bool, true, false, ℕ, eqb}
+use Rattle.std.specs.Prelude.{Bool, ℕ, eqb, Option, Some, None, is_some, unwrap_or}
 use Rattle.std.specs.Prelude.{if◌then◌else◌}
-use Rattle.basics.specs.declared.Given.{Given}
-use Rattle.basics.specs.declared.Given.TheVariants.{Nothing, Number}
 
-abbrev pub is_given : Given → Bool
-is_given Nothing = false
-is_given (Number n) = true
+abbrev pub is_given : Option ℕ → Bool
+is_given given = is_some given
 
 -- the number, or the standard's
-abbrev pub or_else : ℕ → Given → ℕ
-or_else standard Nothing = standard
-or_else standard (Number n) = n
+abbrev pub or_else : ℕ → Option ℕ → ℕ
+or_else standard given = unwrap_or given standard
 
 -- a number that may be given, in two cells
-abbrev pub given_from : ℕ → ℕ → Given
-given_from flag n = if eqb flag 0 then Nothing else Number n
+abbrev pub given_from : ℕ → ℕ → Option ℕ
+given_from flag n = if eqb flag 0 then None else Some n
 
-abbrev pub flag_of : Given → ℕ
-flag_of Nothing = 0
-flag_of (Number n) = 1
+abbrev pub flag_of : Option ℕ → ℕ
+flag_of None = 0
+flag_of (Some n) = 1
 
-abbrev pub number_of : Given → ℕ
-number_of Nothing = 0
-number_of (Number n) = n
+abbrev pub number_of : Option ℕ → ℕ
+number_of None = 0
+number_of (Some n) = n

@@ -1,9 +1,9 @@
-// What every stage needs: a number that may be given, a fault that may be found, the numbers of a slice, and the limits by name.
+// What every stage needs: the rules and their refusals, a number that may be given, the numbers of a slice, and the limits by name.
 #![tactic(auto)]
 
 ghost use Rattle.std.specs.Prelude.{◌||◌, ◌≡◌, set};
-ghost use Rattle.basics.specs.Given.{is_given, or_else, given_from, flag_of, number_of};
-ghost use Rattle.basics.specs.Judged.{first_of};
+ghost use Rattle.basics.specs.Given.{given_from, flag_of, number_of};
+ghost use Rattle.basics.specs.Judged.{rule_number};
 ghost use Rattle.basics.specs.Slices.{cell_of};
 
 // The limits of documents 01 and 02 and the widths of rows: crates/basics/specs/Limits.antt says of each what it is.
@@ -43,75 +43,107 @@ pub const NAME_WIDTH: usize = 32;
 
 pub const PATH_ROW_WIDTH: usize = 288;
 
-// A number that may be given: a property's, an alignment's, an index.
-#[derive(Clone, Copy)]
-pub enum Given {
-    Nothing,
-    Number(u64),
+// The rules that a text, a table or an access may break: document 01's refusals in the order of their numbers, 1 to 25.
+#[derive(Clone, Copy, PartialEq, Eq)]
+pub enum Rule {
+    TextLength,
+    BadWord,
+    BadSentence,
+    LeftOutKeyword,
+    UnknownType,
+    NameTaken,
+    PropertyMisplaced,
+    SetTwice,
+    BadValue,
+    Misplaced,
+    SuffixMisplaced,
+    UnusableEffect,
+    WideReset,
+    WideAccess,
+    FieldOutside,
+    FieldsOverlap,
+    FieldSpansParts,
+    TooMany,
+    ShortStride,
+    RegisterMisplaced,
+    RegistersOverlap,
+    NoRoom,
+    BadAccess,
+    BadRows,
+    NothingReached,
 }
 
-// Whether a number is given.
-pub fn is_given(given: Given) -> bool
-    ensures { result ≡ is_given given }
-{
-    match given {
-        Given::Nothing => false,
-        Given::Number(_) => true,
+// A refusal: the broken rule, and the place in the text where it is broken.
+#[derive(Clone, Copy, PartialEq, Eq)]
+pub struct Refusal {
+    pub rule: Rule,
+    pub at: usize,
+}
+
+impl Rule {
+    // The rule's number in document 01.
+    pub fn number(self) -> u8
+        ensures { result ≡ rule_number self }
+    {
+        match self {
+            Rule::TextLength => 1,
+            Rule::BadWord => 2,
+            Rule::BadSentence => 3,
+            Rule::LeftOutKeyword => 4,
+            Rule::UnknownType => 5,
+            Rule::NameTaken => 6,
+            Rule::PropertyMisplaced => 7,
+            Rule::SetTwice => 8,
+            Rule::BadValue => 9,
+            Rule::Misplaced => 10,
+            Rule::SuffixMisplaced => 11,
+            Rule::UnusableEffect => 12,
+            Rule::WideReset => 13,
+            Rule::WideAccess => 14,
+            Rule::FieldOutside => 15,
+            Rule::FieldsOverlap => 16,
+            Rule::FieldSpansParts => 17,
+            Rule::TooMany => 18,
+            Rule::ShortStride => 19,
+            Rule::RegisterMisplaced => 20,
+            Rule::RegistersOverlap => 21,
+            Rule::NoRoom => 22,
+            Rule::BadAccess => 23,
+            Rule::BadRows => 24,
+            Rule::NothingReached => 25,
+        }
     }
-}
 
-// The number that is given, or the standard's.
-pub fn or_else(standard: u64, given: Given) -> u64
-    ensures { result ≡ or_else standard given }
-{
-    match given {
-        Given::Nothing => standard,
-        Given::Number(number) => number,
+    // The rule, broken at a place.
+    pub fn at(self, at: usize) -> Refusal
+        ensures { result ≡ record { rule = self; at = at } }
+    {
+        Refusal { rule: self, at }
     }
 }
 
 // A number that may be given, from two cells.
-pub fn given_from(flag: u64, number: u64) -> Given
+pub fn given_from(flag: u64, number: u64) -> Option<u64>
     ensures { result ≡ given_from flag number }
 {
-    if flag == 0 {
-        return Given::Nothing;
-    }
-    Given::Number(number)
+    if flag == 0 { None } else { Some(number) }
 }
 
-pub fn flag_of(given: Given) -> u64
+pub fn flag_of(given: Option<u64>) -> u64
     ensures { result ≡ flag_of given }
 {
     match given {
-        Given::Nothing => 0,
-        Given::Number(_) => 1,
+        None => 0,
+        Some(_) => 1,
     }
 }
 
-pub fn number_of(given: Given) -> u64
+pub fn number_of(given: Option<u64>) -> u64
     ensures { result ≡ number_of given }
 {
     match given {
-        Given::Nothing => 0,
-        Given::Number(number) => number,
-    }
-}
-
-// No fault, or a refusal: the broken rule's number and its place.
-#[derive(Clone, Copy)]
-pub enum Fault {
-    None,
-    Refused(u8, usize),
-}
-
-// The fault that stands first in the text.
-pub fn first_of(earlier: Fault, later: Fault) -> Fault
-    ensures { result ≡ first_of earlier later }
-{
-    match earlier {
-        Fault::None => later,
-        Fault::Refused(number, place) => Fault::Refused(number, place),
+        None => 0,
+        Some(number) => number,
     }
 }
 

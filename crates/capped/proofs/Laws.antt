@@ -1,7 +1,7 @@
 -- Laws of the definitions: each operation on cut numbers, cut again, is the operation on the true ones, cut.
 use mathlib.Core.Bool.{Bool, true, false, ◌||◌}
 use mathlib.Core.Path.{◌≡◌, refl, sym, ap, subst, ◌∙◌}
-use Prim.Native.Nat.{ℕ, zero, suc, ◌+◌, ◌-◌, ◌*◌, ◌/◌, ◌%◌, ◌^◌, ◌<◌, ◌≤◌, ◌∣◌}
+use Prim.Native.Nat.{ℕ, zero, suc, min, ◌+◌, ◌-◌, ◌*◌, ◌/◌, ◌%◌, ◌^◌, ◌<◌, ◌≤◌, ◌∣◌}
 use native.Mathlib.Nat.{le-mul_of_pos_right, mul-zero, zero-mul, mul_comm, mul_assoc, mul-add, mul_right_comm, suc-mul, mul-le-mul_left, mul-le-mul_right, le-div_iff_mul-le, lt-div-mul-add, div-mul-le_self, div-eq_of_lt, pow-suc, one-le-pow, pow-le-pow_right, div-mul_cancel, one-dvd, dvd_refl, dvd_trans, dvd-add, dvd-mul_left, dvd-mul_right, dvd_of_mod-eq-zero, mod-eq-zero_of_dvd, dvd_of_mul-dvd-mul_right, mul-dvd-mul_right, le_of_dvd, pos_of_dvd_of_pos}
 use native.Mathlib.Omega.{arith}
 use lib.Dec.{eqb, leb, ltb}
@@ -26,6 +26,10 @@ module _ (x : ℕ) where
   unfolding cut
   cut_either Q p q = either Q (ltb x cap) (λ e. p (ltb-true x cap e)) (λ e. q (ltb-false x cap e))
 
+  -- the library's smaller of two
+  pub cut_min : min x cap ≡ cut x
+  cut_min = cut_either (λ (n : ℕ). min x cap ≡ n) (λ h. omega arith) (λ h. omega arith)
+
   pub cut_bound : cut x ≤ cap
   cut_bound = cut_either (λ (n : ℕ). n ≤ cap) (λ h. omega arith) (λ h. omega arith)
 
@@ -44,43 +48,15 @@ high : (x y : ℕ) → cap ≤ x → cap ≤ y → cut x ≡ cut y
 high x y f g = cut_high x f ∙ sym (cut_high y g)
 
 module _ (x y : ℕ) where
-  cut_order : x ≤ y → cut x ≤ cut y
-  cut_order l =
-      cut_either y (λ (n : ℕ). cut x ≤ n) (λ h. rw (cut_low x (omega arith)) l) (λ h. cut_bound x)
-
   pub cut_sum : cut (cut x + cut y) ≡ cut (x + y)
   cut_sum =
       cut_either x (λ (n : ℕ). cut (n + cut y) ≡ cut (x + y))
       (λ f. cut_either y (λ (n : ℕ). cut (x + n) ≡ cut (x + y)) (λ g. refl) (λ g. high (x + cap) (x + y) (omega arith) (omega arith)))
       (λ f. high (cap + cut y) (x + y) (omega arith) (omega arith))
 
-  pub larger_right : x ≤ y → larger x y ≡ y
-  unfolding larger
-  larger_right l = rw (le-leb x y l)
-
-  pub larger_left : y ≤ x → larger x y ≡ x
-  unfolding larger
-  larger_left l = either (λ (n : ℕ). n ≡ x) (leb x y) (λ e. omega (arith, leb-true x y e)) (λ _. refl)
-
-  pub larger_first : x ≤ larger x y
-  unfolding larger
-  larger_first = either (λ (n : ℕ). x ≤ n) (leb x y) (λ e. leb-true x y e) (λ _. omega arith)
-
-  pub larger_second : y ≤ larger x y
-  unfolding larger
-  larger_second = either (λ (n : ℕ). y ≤ n) (leb x y) (λ _. omega arith) (λ e. omega (arith, leb-false x y e))
-
 -- the larger of two cut numbers
 pub cut-larger : (x y : ℕ) → larger (cut x) (cut y) ≡ cut (larger x y)
-cut-larger x y = by (leb x y) refl
-  where
-    by : (r : Bool) → leb x y ≡ r → larger (cut x) (cut y) ≡ cut (larger x y)
-    by true e =
-        let l : x ≤ y = leb-true x y e in
-        larger_right (cut x) (cut y) (cut_order x y l) ∙ ap cut (sym (larger_right x y l))
-    by false e =
-        let l : y < x = leb-false x y e in
-        larger_left (cut x) (cut y) (cut_order y x (omega arith)) ∙ ap cut (sym (larger_left x y (omega arith)))
+cut-larger x y = omega (arith, cut_min x, cut_min y, cut_min (larger x y))
 
 -- a product
 pub cut_product : (x n : ℕ) → cut (cut x * n) ≡ cut (x * n)

@@ -1,6 +1,6 @@
 -- Sizes and offsets are whole numbers (document 01, "Addresses": "no wrap may show"). The code keeps each cut at a cap above every
 -- address; that is enough, since each operation on cut numbers, cut again, is the operation on the true ones, cut.
-use Rattle.std.specs.Prelude.{ℕ, zero, suc, ◌+◌, ◌-◌, ◌*◌, ◌/◌, ◌%◌, ◌^◌, eqb, leb, ltb}
+use Rattle.std.specs.Prelude.{ℕ, zero, suc, max, ◌+◌, ◌-◌, ◌*◌, ◌/◌, ◌%◌, ◌^◌, eqb, leb, ltb}
 use Rattle.std.specs.Prelude.{if◌then◌else◌}
 
 abbrev pub cap : ℕ
@@ -14,8 +14,8 @@ unfoldable pub cut : ℕ → ℕ
 cut x = if ltb x cap then x else cap
 
 -- the larger of two numbers
-unfoldable pub larger : ℕ → ℕ → ℕ
-larger a b = if leb a b then b else a
+abbrev pub larger : ℕ → ℕ → ℕ
+larger a b = max a b
 
 -- "the smallest offset not below .. that is a multiple of its step", for a step of 1 at least
 unfoldable pub raised : ℕ → ℕ → ℕ

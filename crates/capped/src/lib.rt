@@ -3,18 +3,16 @@
 
 ghost use Rattle.std.specs.Prelude.{◌≡◌, true, ◌+◌, ◌*◌, ◌≤◌};
 ghost use Rattle.property_values.specs.Settings.{is_alignment};
-ghost use Rattle.capped.specs.Offsets.{cap, factor_bound, cut, larger, raised, common_multiple, power_above};
+ghost use Rattle.capped.specs.Offsets.{cap, factor_bound, cut, raised, common_multiple, power_above};
 
 pub const CAP: u64 = 1099511627776;
 
 // A number cut at the cap.
+#[tactic(auto, using(crate::proofs::Laws::cut_min))]
 fn cut_at_cap(x: u64) -> u64
     ensures { result ≡ cut x }
 {
-    if x < CAP {
-        return x;
-    }
-    CAP
+    x.min(CAP)
 }
 
 pub fn sum(a: u64, b: u64) -> u64
@@ -29,15 +27,6 @@ pub fn product(a: u64, n: u64) -> u64
     ensures { (result ≡ cut (a * n)) × (result ≤ cap) }
 {
     cut_at_cap(a * n)
-}
-
-pub fn larger_of(a: u64, b: u64) -> u64
-    ensures { result ≡ larger a b }
-{
-    if a <= b {
-        return b;
-    }
-    a
 }
 
 // The smallest multiple of a step that is not below a number.

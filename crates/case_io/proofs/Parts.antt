@@ -1,5 +1,5 @@
 -- Lemmas on what stands of a text that is written in parts, where a write of a part fails.
-use Rattle.std.proofs.Common.{◌≡◌, ℕ, List, ◌++◌, OnOk, OnErr, Result, Ok, Err, length, take, drop, sym, ap, ◌∙◌, subst, append_assoc, take-append-drop}
+use Rattle.std.proofs.Common.{◌≡◌, ℕ, List, ◌++◌, OnErr, Result, Ok, Err, length, take, drop, sym, ap, ◌∙◌, subst, append_assoc, take-append-drop}
 use Rattle.std.specs.Io.KnownBytes.{Appends}
 use Rattle.std.proofs.KnownBytes.{Appends-trans}
 use Rattle.std.specs.declared.option.Option.{Option}
@@ -29,7 +29,3 @@ part_behind a b c xs ys before (k, put) =
 pub err_behind : {T E : Type 0} (r : Result T E) (a b c : Option (List ℕ)) (xs ys given : List ℕ) → given ≡ ys → Appends a b xs → OnErr r (AppendsPart b c given) → OnErr r (AppendsPart a c (xs ++ ys))
 err_behind (Ok x) a b c xs ys given same before put = tt
 err_behind (Err e) a b c xs ys given same before put = part_behind a b c xs ys before (subst (AppendsPart b c) same put)
-
-pub ok_behind : {T E : Type 0} (r : Result T E) (a b c : Option (List ℕ)) (xs ys : List ℕ) → Appends a b xs → OnOk r (Appends b c ys) → OnOk r (Appends a c (xs ++ ys))
-ok_behind (Ok x) a b c xs ys before put = Appends-trans a b c xs ys before put
-ok_behind (Err e) a b c xs ys before put = tt

@@ -5,9 +5,8 @@ use Rattle.parts.specs.Reading.{Parsed, ok, stop as refused}
 use Rattle.parts.specs.Parts.{instance_at}
 use Rattle.parts.specs.declared.Instance.{Instance}
 use Rattle.cells.specs.Cells.{name_in, below_in, place_in, row_in}
-use Rattle.cells.specs.declared.ChildReading.{ChildReading}
-use Rattle.cells.specs.declared.ChildReading.TheVariants as child
 use Rattle.cells.specs.Definitions.{VisibleType}
+use Rattle.basics.specs.Judged.{Judged, fine, fault}
 
 -- the types from one row's number (and one more) down to another's, by the rows of the types declared before; at most `fuel` of them
 unfoldable pub types_from : ℕ → List ℕ → ℕ → ℕ → List VisibleType
@@ -20,9 +19,9 @@ abbrev pub types_in : List ℕ → ℕ → ℕ → List VisibleType
 types_in t stop head = types_from head t stop head
 
 -- the instance of a cell, which is read at its place, behind its type's row
-abbrev pub child_read : ℕ → Parsed Instance → ChildReading
-child_read row (ok instance next) = child.Done row instance
-child_read row (refused number place) = child.Refused number place
+abbrev pub child_read : ℕ → Parsed Instance → Judged (ℕ × Instance)
+child_read row (ok instance next) = fine (row, instance)
+child_read row (refused number place) = fault number place
 
-unfoldable pub child_in : List ℕ → ℕ → ChildReading
+unfoldable pub child_in : List ℕ → ℕ → Judged (ℕ × Instance)
 child_in text x = child_read (row_in x) (instance_at text (place_in x))

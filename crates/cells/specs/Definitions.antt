@@ -1,13 +1,9 @@
 -- What a text's definitions mean, in the order of their closing braces: an instance names its type by the number of its definition.
-use Rattle.std.specs.Prelude.{List, [], ◌∷◌, map, ℕ, get_or}
+use Rattle.std.specs.Prelude.{List, [], ◌∷◌, map, ℕ, get_or, Option, Some, None}
 use Rattle.std.specs.Prelude.{if◌then◌else◌}
 use Rattle.parts.specs.declared.Name.{Name}
-use Rattle.parts.specs.declared.DefinedName.{DefinedName}
-use Rattle.parts.specs.declared.DefinedName.TheVariants.{Unnamed, Named}
 use Rattle.parts.specs.declared.Instance.{Instance}
 use Rattle.identifiers.specs.Names.{same_name}
-use Rattle.basics.specs.declared.Given.{Given}
-use Rattle.basics.specs.declared.Given.TheVariants.{Nothing, Number}
 use Rattle.components.specs.declared.Component.{Component}
 use Rattle.components.specs.declared.Component.TheVariants as component
 
@@ -20,9 +16,9 @@ pub record Child : Type 0 where
 abbrev pub no_name : Name
 no_name = record { start = 0; end = 0 }
 
-abbrev pub name_or : DefinedName → Name
-name_or Unnamed = no_name
-name_or (Named n) = n
+abbrev pub name_or : Option Name → Name
+name_or None = no_name
+name_or (Some n) = n
 
 -- a definition: its name, its component and its instances as declared
 pub record Definition : Type 0 where
@@ -32,7 +28,7 @@ pub record Definition : Type 0 where
 
 -- the definition of a number; there is one for each number that an instance or a type has
 abbrev pub no_definition : Definition
-no_definition = record { name = no_name; component = component.Regfile Nothing; instances = [] }
+no_definition = record { name = no_name; component = component.Regfile None; instances = [] }
 
 abbrev pub definition_of : List Definition → ℕ → Definition
 definition_of table n = get_or table n no_definition
@@ -46,6 +42,6 @@ pub record VisibleType : Type 0 where
   pub row : ℕ
 
 -- "inner hides outer": the type declared last
-unfoldable pub lookup : List ℕ → Name → List VisibleType → Given
-lookup text n [] = Nothing
-lookup text n (e ∷ env) = if same_name text n e.name then Number e.row else lookup text n env
+unfoldable pub lookup : List ℕ → Name → List VisibleType → Option ℕ
+lookup text n [] = None
+lookup text n (e ∷ env) = if same_name text n e.name then Some e.row else lookup text n env

@@ -3,16 +3,17 @@
 #![tactic(auto)]
 
 ghost use Rattle.std.specs.Prelude.{◌≡◌, ◌+◌, ◌-◌, ◌*◌, ◌≤◌, ◌<◌};
+ghost use Rattle.basics.specs.Judged.{judged};
 ghost use Rattle.basics.specs.Limits.{definition_limit};
 ghost use Rattle.basics.specs.Slices.{cell_of, written};
 ghost use Rattle.cells.specs.Cells.{definition_width, instance_room, entries_at, entry_places, rank, component_from, values_in, values_of, component_in, first_in, count_in, name_in, below_in, value_cells, other_cells, link_bound, entry_of, place_in, row_in, left_in, right_in, moved};
 ghost use Rattle.cells.specs.Decoded.{types_in, child_in};
 ghost use Rattle.cells.specs.Definitions.{lookup};
 
-use basics::Given;
+use basics::Refusal;
 use components::Component;
 use fields::{FieldType, Register};
-use parts::{Instance, InstanceReading, Kind, Name};
+use parts::{Instance, Kind, Name};
 
 // The cells of a definition's row, and how many instances there is room for.
 const DEFINITION_WIDTH: usize = 16;
@@ -63,13 +64,6 @@ pub struct Span {
     pub to: usize,
 }
 
-// The instance of a cell, behind its type's row; or the refusal that the text gives at the cell's place.
-#[derive(Clone, Copy)]
-pub enum ChildReading {
-    Done(usize, Instance),
-    Refused(u8, usize),
-}
-
 pub fn rank_of(kind: Kind) -> u64
     ensures { result ≡ rank kind }
 {
@@ -82,49 +76,38 @@ pub fn rank_of(kind: Kind) -> u64
 }
 
 // The component of its numbers.
+#[tactic(auto, unfolding(crate::specs::Cells::component_from))]
 fn component_from(v: Values) -> Component
     ensures { result ≡ component_from v }
 {
-    if v.kind == 3 {
-        let reset = basics::given_from(v.e, v.f);
-        let field = FieldType {
+    match v.kind {
+        3 => Component::Field(FieldType {
             sw: v.a,
             hw: v.b,
             onread: v.c,
             onwrite: v.d,
-            reset: reset,
-        };
-        return Component::Field(field);
-    }
-    if v.kind == 2 {
-        let register = Register {
+            reset: basics::given_from(v.e, v.f),
+        }),
+        2 => Component::Register(Register {
             width: v.a,
             access: v.b,
-        };
-        return Component::Register(register);
+        }),
+        1 => Component::Regfile(basics::given_from(v.a, v.b)),
+        _ => Component::Addrmap(basics::given_from(v.a, v.b), basics::given_from(v.c, v.d)),
     }
-    let alignment = basics::given_from(v.a, v.b);
-    if v.kind == 1 {
-        return Component::Regfile(alignment);
-    }
-    let addressing = basics::given_from(v.c, v.d);
-    Component::Addrmap(alignment, addressing)
 }
 
 fn field_values(field: FieldType) -> Values
     ensures { result ≡ values_of (Component.Field field) }
 {
-    let reset = field.reset;
-    let flag = basics::flag_of(reset);
-    let number = basics::number_of(reset);
     Values {
         kind: 3,
         a: field.sw,
         b: field.hw,
         c: field.onread,
         d: field.onwrite,
-        e: flag,
-        f: number,
+        e: basics::flag_of(field.reset),
+        f: basics::number_of(field.reset),
     }
 }
 
@@ -142,15 +125,13 @@ fn register_values(register: Register) -> Values
     }
 }
 
-fn regfile_values(alignment: Given) -> Values
+fn regfile_values(alignment: Option<u64>) -> Values
     ensures { result ≡ values_of (Component.Regfile alignment) }
 {
-    let flag = basics::flag_of(alignment);
-    let number = basics::number_of(alignment);
     Values {
         kind: 1,
-        a: flag,
-        b: number,
+        a: basics::flag_of(alignment),
+        b: basics::number_of(alignment),
         c: 0,
         d: 0,
         e: 0,
@@ -158,19 +139,15 @@ fn regfile_values(alignment: Given) -> Values
     }
 }
 
-fn map_values(alignment: Given, addressing: Given) -> Values
+fn map_values(alignment: Option<u64>, addressing: Option<u64>) -> Values
     ensures { result ≡ values_of (Component.Addrmap alignment addressing) }
 {
-    let a = basics::flag_of(alignment);
-    let b = basics::number_of(alignment);
-    let c = basics::flag_of(addressing);
-    let d = basics::number_of(addressing);
     Values {
         kind: 0,
-        a: a,
-        b: b,
-        c: c,
-        d: d,
+        a: basics::flag_of(alignment),
+        b: basics::number_of(alignment),
+        c: basics::flag_of(addressing),
+        d: basics::number_of(addressing),
         e: 0,
         f: 0,
     }
@@ -194,21 +171,14 @@ fn values_at(cells: &[u64], row: usize) -> Values
     ensures { result ≡ values_in cells.now row }
 {
     let start = row * DEFINITION_WIDTH;
-    let kind = basics::cell(cells, start);
-    let a = basics::cell(cells, start + 1);
-    let b = basics::cell(cells, start + 2);
-    let c = basics::cell(cells, start + 3);
-    let d = basics::cell(cells, start + 4);
-    let e = basics::cell(cells, start + 5);
-    let f = basics::cell(cells, start + 6);
     Values {
-        kind: kind,
-        a: a,
-        b: b,
-        c: c,
-        d: d,
-        e: e,
-        f: f,
+        kind: basics::cell(cells, start),
+        a: basics::cell(cells, start + 1),
+        b: basics::cell(cells, start + 2),
+        c: basics::cell(cells, start + 3),
+        d: basics::cell(cells, start + 4),
+        e: basics::cell(cells, start + 5),
+        f: basics::cell(cells, start + 6),
     }
 }
 
@@ -217,10 +187,10 @@ pub fn component_at(cells: &[u64], row: usize) -> Component
     requires { row < definition_limit }
     ensures { result ≡ component_in cells.now row }
 {
-    let values = values_at(cells, row);
-    component_from(values)
+    component_from(values_at(cells, row))
 }
 
+#[tactic(auto, unfolding(basics::specs::Slices::written))]
 fn put_values(cells: &mut [u64], start: usize, v: Values)
     requires { start < entries_at }
     ensures { cells.new ≡ written cells.old start (value_cells v) }
@@ -235,20 +205,17 @@ fn put_values(cells: &mut [u64], start: usize, v: Values)
 }
 
 // Writes a row.
+#[tactic(auto, unfolding(basics::specs::Slices::written))]
 pub fn put_row(cells: &mut [u64], number: usize, row: Row)
     requires { number < definition_limit }
     ensures { cells.new ≡ written (written cells.old (number * definition_width) (value_cells row.values)) (number * definition_width + 7) (other_cells row) }
 {
     let start = number * DEFINITION_WIDTH;
-    let values = row.values;
-    put_values(cells, start, values);
+    put_values(cells, start, row.values);
     basics::put(cells, start + 7, row.first);
     basics::put(cells, start + 8, row.count);
-    let name = row.name;
-    let name_start = name.start as u64;
-    let name_end = name.end as u64;
-    basics::put(cells, start + 9, name_start);
-    basics::put(cells, start + 10, name_end);
+    basics::put(cells, start + 9, row.name.start as u64);
+    basics::put(cells, start + 10, row.name.end as u64);
     basics::put(cells, start + 11, row.below);
 }
 
@@ -305,15 +272,14 @@ pub fn instances_of(cells: &[u64], row: usize) -> Span
     }
 }
 
-// The instance of a cell, read again at its place.
-pub fn child_at(text: &[u8], cells: &[u64], i: usize) -> ChildReading
-    ensures { result ≡ child_in text.now (cell_of cells.now i) }
+// The instance of a cell, read again at its place, behind its type's row; or the refusal that the text gives there.
+#[tactic(auto, unfolding(crate::specs::Decoded::child_in))]
+pub fn child_at(text: &[u8], cells: &[u64], i: usize) -> Result<(usize, Instance), Refusal>
+    ensures { judged result ≡ child_in text.now (cell_of cells.now i) }
 {
     let entry = basics::cell(cells, i);
-    match parts::read_instance(text, place_in(entry)) {
-        InstanceReading::Done(instance, _) => ChildReading::Done(row_in(entry), instance),
-        InstanceReading::Refused(number, place) => ChildReading::Refused(number, place),
-    }
+    let (instance, _) = parts::read_instance(text, place_in(entry))?;
+    Ok((row_in(entry), instance))
 }
 
 // The name of a row.
@@ -321,29 +287,25 @@ pub fn name_at(cells: &[u64], row: usize) -> Name
     requires { row < definition_limit }
     ensures { result ≡ name_in cells.now row }
 {
-    let start = basics::cell(cells, row * DEFINITION_WIDTH + 9);
-    let end = basics::cell(cells, row * DEFINITION_WIDTH + 10);
+    let start = row * DEFINITION_WIDTH;
     Name {
-        start: start as usize,
-        end: end as usize,
+        start: basics::cell(cells, start + 9) as usize,
+        end: basics::cell(cells, start + 10) as usize,
     }
 }
 
 // The type declared before that of a row: its row's number and one more, or 0.
+#[tactic(auto, unfolding(crate::specs::Cells::below_in))]
 fn below_at(cells: &[u64], row: usize) -> usize
     requires { row < definition_limit }
     ensures { (result ≡ below_in cells.now row) × (result ≤ row) }
 {
-    let value = basics::cell(cells, row * DEFINITION_WIDTH + 11);
-    let below = value as usize;
-    if row < below {
-        return row;
-    }
-    below
+    let below = basics::cell(cells, row * DEFINITION_WIDTH + 11) as usize;
+    below.min(row)
 }
 
 // The row of the type that a name means, among those from a row's number (and one more) down to another's.
-pub fn find_type(text: &[u8], cells: &[u64], head: usize, stop: usize, name: Name) -> Given
+pub fn find_type(text: &[u8], cells: &[u64], head: usize, stop: usize, name: Name) -> Option<u64>
     requires { head ≤ definition_limit }
     ensures { result ≡ lookup text.now name (types_in cells.now stop head) }
 {
@@ -352,24 +314,21 @@ pub fn find_type(text: &[u8], cells: &[u64], head: usize, stop: usize, name: Nam
         let row = at - 1;
         let other = name_at(cells, row);
         if identifiers::same_name(text, name, other) {
-            let number = row as u64;
-            return Given::Number(number);
+            return Some(row as u64);
         }
         at = below_at(cells, row);
     }
-    Given::Nothing
+    None
 }
 
 // Moves cells to higher ones, the last first.
+#[tactic(auto, unfolding(crate::specs::Cells::moved))]
 pub fn move_cells(cells: &mut [u64], from: usize, to: usize, count: usize)
     requires { (from + count < entry_places) × (to + count < entry_places) }
     ensures { cells.new ≡ moved cells.old from to count }
 {
-    let mut left = count;
-    while 0 < left {
-        let k = left - 1;
+    for k in (0..count).rev() {
         let value = basics::cell(cells, from + k);
         basics::put(cells, to + k, value);
-        left = k;
     }
 }

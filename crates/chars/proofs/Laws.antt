@@ -2,34 +2,18 @@
 use mathlib.Core.Bool.{Bool, true, false, ◌||◌, ◌&&◌}
 use mathlib.Core.Path.{◌≡◌, refl, sym, ap, ◌∙◌}
 use mathlib.Core.List.{List, [], ◌∷◌}
-use Prim.Native.Nat.{ℕ, suc, ◌+◌, ◌-◌, ◌<◌, ◌≤◌}
+use Prim.Native.Nat.{ℕ, suc, max, ◌+◌, ◌-◌, ◌<◌, ◌≤◌}
+use lib.Pointwise.{pointwise}
 use native.Mathlib.Numerals.{add-one}
 use native.Mathlib.Omega.{arith}
 use lib.Dec.{eqb, leb}
 use lib.ListN.{length, drop, get_or, take, drop_of_length-le, length-drop}
 use lib.Seq.{drop-cons}
-use borrow.Author.Tests.{eq-eqb, ne_eqb, le-leb, lt-leb, leb-true, leb-false, eqb-true}
+use borrow.Author.Tests.{le-leb, lt-leb, leb-true, leb-false, eqb-true}
 use Rattle.std.specs.Prelude.{if◌then◌else◌}
 use Rattle.chars.specs.Ascii.{is_within}
 use Rattle.chars.specs.Run.{run, run_end, every}
 use Rattle.chars.specs.Same.{same_bytes}
-
--- An early return at a test is an `or`.
-module _ (p q : Bool) where
-  pub or_yes : {r : Bool} → r ≡ p → r ≡ true → true ≡ (p || q)
-  or_yes e f = rw (sym e ∙ f)
-
-  pub or_no : {r s : Bool} → r ≡ p → r ≡ false → s ≡ q → s ≡ (p || q)
-  or_no e f g = rw (sym e ∙ f) g
-
-module _ (a k : ℕ) (q : Bool) where
-  pub or_equal : a ≡ k → true ≡ (eqb a k || q)
-  or_equal e = rw (eq-eqb a k e)
-
-  pub or_other : {s : Bool} → (a ≡ k → ⊥) → s ≡ q → s ≡ (eqb a k || q)
-  or_other e f = rw (ne_eqb a k e) f
-
-pub ruleset ors = (or_yes, or_no, or_equal, or_other, refl)
 
 pub drop_next : (t : List ℕ) (i : ℕ) → i < length t → drop i t ≡ get_or t i 0 ∷ drop (i + 1) t
 drop_next t i h = rw (add-one, drop-cons t i 0)
@@ -54,6 +38,13 @@ module _ (P : ℕ → Bool) (t : List ℕ) (i : ℕ) {x : ℕ} (at : run_end P t
     run_stop f =
         let w : i + 0 ≡ x = rw (drop_next t i h, sym e ∙ f) at at in
         omega arith
+
+-- a run that no byte ends goes to the end of the text
+pub run_past : (P : ℕ → Bool) (t : List ℕ) (at i : ℕ) → run_end P t i ≡ run_end P t at → length t ≤ i → (at ≤ length t → i ≤ length t) → max at (length t) ≡ run_end P t at
+run_past P t at i e h k =
+    let here : i ≡ run_end P t at = run_stop_end P t i e h in
+    let past : length t ≤ at → at ≡ run_end P t at = λ g. run_stop_end P t at refl g in
+    grind arith
 
 pub ruleset runs = (run_stop_end, run_more, run_stop)
 
@@ -117,29 +108,13 @@ module _ (P : ℕ → Bool) (t : List ℕ) (i : ℕ) {e : ℕ} (q : e ≡ run_en
       let n : e - i ≡ length (run P (drop i t)) = omega arith in
       rw n (run_take P (drop i t))
 
-nothing_left : (b : List ℕ) (i : ℕ) (r : Bool) → leb (length b) i ≡ r → same_bytes [] (drop i b) ≡ r
+-- the library's equality of two slices
+pub same-pointwise : (a b : List ℕ) → pointwise eqb a b ≡ same_bytes a b
 unfolding same_bytes
-nothing_left b i true e = rw (drop_of_length-le b (leb-true _ _ e))
-nothing_left b i false e = rw (drop_next b i (leb-false _ _ e))
-
--- two byte strings, compared from the index i on
-module _ (a b : List ℕ) (i : ℕ) {x : Bool} (at : same_bytes (drop i a) (drop i b) ≡ x) where
-  pub same_end : length a ≤ i → leb (length b) i ≡ x
-  same_end g = sym (nothing_left b i (leb (length b) i) refl) ∙ (rw (drop_of_length-le a g) at at)
-
-  pub same_long : i < length a → length b ≤ i → false ≡ x
-  unfolding same_bytes
-  same_long g h = rw (drop_next a i g, drop_of_length-le b h) at at
-
-  pub same_other : i < length a → i < length b → (get_or a i 0 ≡ get_or b i 0 → ⊥) → false ≡ x
-  unfolding same_bytes
-  same_other g h f = rw (drop_next a i g, drop_next b i h, ne_eqb _ _ f) at at
-
-  pub same_more : i < length a → i < length b → get_or a i 0 ≡ get_or b i 0 → same_bytes (drop (i + 1) a) (drop (i + 1) b) ≡ x
-  unfolding same_bytes
-  same_more g h f = rw (drop_next a i g, drop_next b i h, eq-eqb _ _ f) at at
-
-pub ruleset sames = (same_end, same_long, same_other, same_more)
+same-pointwise [] [] = refl
+same-pointwise [] (y ∷ ys) = refl
+same-pointwise (x ∷ xs) [] = refl
+same-pointwise (x ∷ xs) (y ∷ ys) = rw (same-pointwise xs ys)
 
 -- equal by the test means equal
 pub same_equal : (a b : List ℕ) → same_bytes a b ≡ true → a ≡ b

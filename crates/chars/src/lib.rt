@@ -7,7 +7,7 @@ ghost use Rattle.chars.specs.Run.{run_end, every};
 ghost use Rattle.chars.specs.Same.{same_bytes};
 
 // The radix of a number's digits.
-#[derive(Clone, Copy)]
+#[derive(Clone, Copy, PartialEq, Eq)]
 pub enum Radix {
     Binary,
     Decimal,
@@ -15,7 +15,7 @@ pub enum Radix {
 }
 
 // The bytes that a run holds.
-#[derive(Clone, Copy)]
+#[derive(Clone, Copy, PartialEq, Eq)]
 pub enum Class {
     // letters, digits and underscores
     Name,
@@ -31,82 +31,49 @@ pub enum Class {
 pub fn within(b: u8, low: u8, high: u8) -> bool
     ensures { result ≡ is_within low high b }
 {
-    if b < low {
-        return false;
-    }
-    b <= high
+    low <= b && b <= high
 }
 
 #[tactic(auto, unfolding(crate::specs::Ascii::is_blank))]
 pub fn is_blank(b: u8) -> bool
     ensures { result ≡ is_blank b }
 {
-    if b == b' ' {
-        return true;
-    }
-    if b == b'\t' {
-        return true;
-    }
-    if b == b'\r' {
-        return true;
-    }
-    b == b'\n'
+    b == b' ' || b == b'\t' || b == b'\r' || b == b'\n'
 }
 
 #[tactic(auto, unfolding(crate::specs::Ascii::is_line_end))]
 pub fn is_line_end(b: u8) -> bool
     ensures { result ≡ is_line_end b }
 {
-    if b == b'\n' {
-        return true;
-    }
-    b == b'\r'
+    b == b'\n' || b == b'\r'
 }
 
 #[tactic(auto, unfolding(crate::specs::Ascii::is_letter))]
 pub fn is_letter(b: u8) -> bool
     ensures { result ≡ is_letter b }
 {
-    if within(b, b'a', b'z') {
-        return true;
-    }
-    if within(b, b'A', b'Z') {
-        return true;
-    }
-    b == b'_'
+    within(b, b'a', b'z') || within(b, b'A', b'Z') || b == b'_'
 }
 
 #[tactic(auto, unfolding(crate::specs::Ascii::is_name_byte))]
 pub fn is_name_byte(b: u8) -> bool
     ensures { result ≡ is_name_byte b }
 {
-    if is_letter(b) {
-        return true;
-    }
-    within(b, b'0', b'9')
+    is_letter(b) || within(b, b'0', b'9')
 }
 
 #[tactic(auto, unfolding(crate::specs::Ascii::is_number_byte))]
 fn is_number_byte(b: u8) -> bool
     ensures { result ≡ is_number_byte b }
 {
-    if is_name_byte(b) {
-        return true;
-    }
-    b == b'\''
+    is_name_byte(b) || b == b'\''
 }
 
 #[tactic(auto, unfolding(crate::specs::Ascii::is_hex_digit))]
 fn is_hex_digit(b: u8) -> bool
     ensures { result ≡ is_hex_digit b }
 {
-    if within(b, b'0', b'9') {
-        return true;
-    }
-    if within(b, b'a', b'f') {
-        return true;
-    }
-    within(b, b'A', b'F')
+    within(b, b'0', b'9') || within(b, b'a', b'f') || within(b, b'A', b'F')
 }
 
 pub fn is_digit(radix: Radix, b: u8) -> bool
@@ -123,10 +90,7 @@ pub fn is_digit(radix: Radix, b: u8) -> bool
 fn is_spaced_digit(radix: Radix, b: u8) -> bool
     ensures { result ≡ is_spaced_digit radix b }
 {
-    if is_digit(radix, b) {
-        return true;
-    }
-    b == b'_'
+    is_digit(radix, b) || b == b'_'
 }
 
 fn in_class(class: Class, b: u8) -> bool
@@ -144,16 +108,12 @@ fn in_class(class: Class, b: u8) -> bool
 pub fn run_end(text: &[u8], at: usize, class: Class) -> usize
     ensures { result ≡ run_end (in_class class) text.now at }
 {
-    let mut i = at;
-    loop {
-        if i >= text.len() {
-            break i;
-        }
+    for i in at..text.len() {
         if !in_class(class, text[i]) {
-            break i;
+            return i;
         }
-        i += 1;
     }
+    at.max(text.len())
 }
 
 // Whether all bytes from `at` on are in a class.
@@ -167,27 +127,12 @@ pub fn all_in(text: &[u8], at: usize, class: Class) -> bool
 pub fn same(a: &[u8], b: &[u8]) -> bool
     ensures { result ≡ same_bytes a.now b.now }
 {
-    let mut i = 0;
-    loop {
-        if i >= a.len() {
-            break i >= b.len();
-        }
-        if i >= b.len() {
-            break false;
-        }
-        if a[i] != b[i] {
-            break false;
-        }
-        i += 1;
-    }
+    a == b
 }
 
 // The byte at `i`, and 0 past the end.
 pub fn byte_at(text: &[u8], i: usize) -> u8
     ensures { result ≡ get_or text.now i 0 }
 {
-    if i < text.len() {
-        return text[i];
-    }
-    0
+    if i < text.len() { text[i] } else { 0 }
 }

@@ -5,35 +5,23 @@ use compile::Compiled;
 use std::io;
 use std::io::Write;
 
-// The rows that the tables hold: as many as a map may have.
-const REGISTERS: usize = 14336;
-
-const PATHS: usize = 294912;
-
-const FIELDS: usize = 32768;
-
-const LABELS: usize = 131072;
-
 fn report<W: Write>(out: &mut W, answer: Compiled) -> io::Result<()> {
     match answer {
-        Compiled::Refused(number, place) => {
-            case_io::put_number(out, b" refused=", number as u64)?;
-            case_io::put_number(out, b" at=", place.at as u64)?;
+        Ok(counts) => {
+            case_io::put_number(out, b" registers=", counts.registers as u64)?;
+            case_io::put_number(out, b" fields=", counts.fields as u64)?;
         }
-        Compiled::Accepted(registers, fields) => {
-            case_io::put_number(out, b" registers=", registers as u64)?;
-            case_io::put_number(out, b" fields=", fields as u64)?;
-        }
+        Err(refusal) => case_io::put_refusal(out, refusal)?,
     }
     case_io::put(out, b"\n")
 }
 
 // A label, and what is answered to a text.
 fn show<W: Write>(out: &mut W, label: &[u8], text: &[u8]) -> io::Result<()> {
-    let mut registers = [0u64; REGISTERS];
-    let mut paths = [0u8; PATHS];
-    let mut fields = [0u64; FIELDS];
-    let mut labels = [0u8; LABELS];
+    let mut registers = [0u64; reply::REGISTERS];
+    let mut paths = [0u8; reply::PATHS];
+    let mut fields = [0u64; reply::FIELDS];
+    let mut labels = [0u8; reply::LABELS];
     case_io::put(out, label)?;
     let answer = compile::compile(text, &mut registers, &mut paths, &mut fields, &mut labels);
     report(out, answer)

@@ -13,13 +13,12 @@ use Rattle.cover.specs.Covers.{is_narrow, meets_in, cover_with, nothing_covered}
 use Rattle.cover.specs.declared.Cover.{Cover}
 use Rattle.cover.proofs.Laws.{meets_nothing, meets_with}
 use Rattle.basics.specs.Slices.{cell_of}
-use Rattle.closing_rules.specs.declared.Placed.{Placed}
-use Rattle.closing_rules.specs.declared.Placed.TheVariants as placed
 use Rattle.closing_rules.specs.Registers.{bit_above, with_placed, first_bit, some, overlaps}
 use Rattle.cells.specs.Cells.{entry_places}
 use Rattle.closing_rules.specs.Decoded.{placed_in, fields_between, overlaps_earlier, is_narrow_in, meets_placed, cover_with_placed}
 use Rattle.closing_rules.proofs.Overlaps.{some-append}
 use Rattle.closing_rules.proofs.Laws.{Passing, pass_start, fields_none, fields_last, overlap_here, overlap_on}
+use Rattle.std.specs.Prelude.{Option, Some, None}
 
 -- a cover stands for these fields: it answers for every narrow field what they answer
 pub record Answers (c : Cover) (fs : List FieldAt) : Type 0 where
@@ -36,40 +35,18 @@ answers_more {c} {fs} g m s =
       same = λ f n. meets_with c f g n m ∙ ap₂ (λ (x y : Bool). x || y) (s.same f n) (sym (or-false (is_overlap f g))) ∙ sym (some-append (Overlap f) fs (g ∷ []));
     }
 
-answers-placed : {c : Cover} {fs : List FieldAt} (p : Placed) → is_narrow_in p ≡ true → Answers c fs → Answers (cover_with_placed c p) (fs ++ with_placed p [])
-answers-placed (placed.Field g) m s = answers_more g m s
-answers-placed {c} {fs} placed.Other m s = rw (append-nil fs) s
+answers-placed : {c : Cover} {fs : List FieldAt} (p : Option FieldAt) → is_narrow_in p ≡ true → Answers c fs → Answers (cover_with_placed c p) (fs ++ with_placed p [])
+answers-placed (Some g) m s = answers_more g m s
+answers-placed {c} {fs} None m s = rw (append-nil fs) s
 
-answers_met : {c : Cover} {fs : List FieldAt} (p : Placed) → is_narrow_in p ≡ true → Answers c fs → meets_placed c p ≡ overlaps_earlier p fs
-answers_met (placed.Field g) m s = s.same g m
-answers_met placed.Other m s = refl
+answers_met : {c : Cover} {fs : List FieldAt} (p : Option FieldAt) → is_narrow_in p ≡ true → Answers c fs → meets_placed c p ≡ overlaps_earlier p fs
+answers_met (Some g) m s = s.same g m
+answers_met None m s = refl
 
 -- one placed instance, in the form that the proofs use
-module _ (p : Placed) where
-  pub narrow_field : {f : FieldAt} {b : Bool} → p ≡ placed.Field f → b ≡ is_narrow f → b ≡ is_narrow_in p
-  narrow_field e h = rw e h
-
-  pub narrow_other : p ≡ placed.Other → true ≡ is_narrow_in p
-  narrow_other e = rw e
-
-  pub narrow_is : {f : FieldAt} → p ≡ placed.Field f → is_narrow_in p ≡ true → is_narrow f ≡ true
-  narrow_is e h = rw e at h
-
+module _ (p : Option FieldAt) where
   pub narrow_told : {b : Bool} → b ≡ is_narrow_in p → not b ≡ false → is_narrow_in p ≡ true
   narrow_told {b} e h = sym e ∙ not-false b h
-
-module _ (p : Placed) (c : Cover) where
-  pub meets_field : {f : FieldAt} {b : Bool} → p ≡ placed.Field f → b ≡ meets_in c f → b ≡ meets_placed c p
-  meets_field e h = rw e h
-
-  pub meets_other : p ≡ placed.Other → false ≡ meets_placed c p
-  meets_other e = rw e
-
-  pub with_field_lem : {f : FieldAt} {d : Cover} → p ≡ placed.Field f → d ≡ cover_with c f → d ≡ cover_with_placed c p
-  with_field_lem e h = rw e h
-
-  pub with_other : p ≡ placed.Other → c ≡ cover_with_placed c p
-  with_other e = rw e
 
 -- of the fields that are passed none overlaps another, and the cover stands for them
 pub record Covering (text t : List ℕ) (from to i : ℕ) (next : BitPlace) (c : Cover) : Type 0 where
@@ -80,7 +57,7 @@ module _ (text t : List ℕ) (from to : ℕ) where
   pub cover_start : {c : Cover} → to ≤ entry_places → c ≡ nothing_covered → Covering text t from to from first_bit c
   cover_start h e = record { passing = pass_start text t from to h; answers = rw (e, fields_none text t first_bit from from (omega arith)) answers_none }
 
-  module _ {i : ℕ} {next : BitPlace} {c : Cover} (s : Covering text t from to i next c) {p : Placed} {n b : Bool}
+  module _ {i : ℕ} {next : BitPlace} {c : Cover} (s : Covering text t from to i next c) {p : Option FieldAt} {n b : Bool}
       (h : i < to) (f : p ≡ placed_in text t next (cell_of t i)) (m : n ≡ is_narrow_in p) (k : not n ≡ false) (g : b ≡ meets_placed c p) where
     met : b ≡ overlaps_earlier p (fields_between text t from i)
     met = g ∙ answers_met p (narrow_told p m k) s.answers

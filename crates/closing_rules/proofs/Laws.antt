@@ -6,90 +6,54 @@ use Prim.Native.Nat.{ℕ, suc, ◌+◌, ◌-◌, ◌*◌, ◌<◌, ◌≤◌}
 use native.Mathlib.Numerals.{add-one}
 use native.Mathlib.Omega.{arith}
 use lib.Dec.{eqb}
-use borrow.Author.Tests.{eq-eqb, ne_eqb, lt-ltb, le-ltb}
+use borrow.Author.Tests.{eq-eqb, ne_eqb}
 use Rattle.chars.proofs.Laws.{or_false}
 use Rattle.parts.specs.declared.Kind.TheVariants as kind
 use Rattle.parts.specs.declared.Instance.{Instance}
 use Rattle.basics.specs.Limits.{sum_bound}
 use Rattle.suffixes.specs.Suffixes.{instance_fault}
-use Rattle.basics.specs.declared.Fault.{Fault}
-use Rattle.basics.specs.declared.Fault.TheVariants.{None, Refused}
-use Rattle.basics.specs.declared.Given.{Given}
 use Rattle.components.specs.Components.{kind_of}
-use Rattle.components.specs.Fields.{field_at, width_in}
+use Rattle.components.specs.Fields.{field_at}
 use Rattle.fields.specs.declared.BitPlace.{BitPlace}
-use Rattle.fields.specs.declared.FieldType.{FieldType}
 use Rattle.fields.specs.declared.FieldAt.{FieldAt}
 use Rattle.fields.specs.declared.Register.{Register}
 use Rattle.components.specs.declared.Component.{Component}
 use Rattle.components.specs.declared.Component.TheVariants as component
 use Rattle.fields.specs.declared.Probe.{Probe}
-use Rattle.fields.specs.declared.Probe.TheVariants.{Wide, Outside, Overlap, Span}
-use Rattle.components.proofs.Laws.{sound_width, sound_high}
+use Rattle.fields.specs.declared.Probe.TheVariants.{Wide, Outside, Span}
+use Rattle.components.proofs.Laws.{sound_high}
 use Rattle.basics.specs.Slices.{cell_of}
 use Rattle.cells.specs.Cells.{entry_places, component_in}
 use Rattle.cells.specs.Decoded.{child_in}
-use Rattle.cells.specs.declared.ChildReading.{ChildReading}
-use Rattle.cells.specs.declared.ChildReading.TheVariants as child_reading
 use Rattle.cells.proofs.Laws.{child_entry}
 use Rattle.cells.specs.Definitions.{Child, Definition, definition_of}
 use Rattle.cells.specs.Relation.{IsEntry}
 use Rattle.closing_rules.specs.declared.Broken.{Broken}
-use Rattle.closing_rules.specs.declared.Placed.{Placed}
-use Rattle.closing_rules.specs.declared.Placed.TheVariants as placed
-use Rattle.closing_rules.specs.Registers.{placement, bit_above, with_placed, fields_from, first_bit, some, overlaps, register_fault, effect_fault, is_empty, closing_fault}
-use Rattle.closing_rules.specs.Decoded.{unless_broken, placed_as, placed_read, placed_in, fields_in_cells, fields_between, top_of, breaks_in, broken_by, broken_with, overlaps_earlier, missing_fault, closing_in}
+use Rattle.closing_rules.specs.Registers.{placement, bit_above, with_placed, fields_from, first_bit, some, overlaps, is_empty, closing_fault}
+use Rattle.closing_rules.specs.Decoded.{unless_broken, placed_as, placed_read, placed_in, fields_in_cells, fields_between, top_of, breaks_in, broken_by, broken_with, overlaps_earlier, closing_in}
 use Rattle.closing_rules.specs.Relation.{HeldBetween, stored_end, stored_on}
 use Rattle.closing_rules.proofs.Overlaps.{overlaps_last, overlaps_kept}
-
--- the instance of a field
-pub place_width : (i : Instance) {e : Fault} → e ≡ instance_fault kind.Field i → e ≡ None → (1 ≤ width_in i.array) × (width_in i.array ≤ 64)
-place_width i a b = sound_width i (sym a ∙ b)
-
-module _ (next : BitPlace) (i : Instance) (f : FieldType) {e : Fault} (a : e ≡ instance_fault kind.Field i) where
-  pub place_sound : {x : FieldAt} → e ≡ None → x ≡ field_at next i f → placed.Field x ≡ placed_as (component.Field f) next i
-  unfolding placed_as
-  place_sound b h = rw (← a, b, h)
-
-  pub place_broken : {n p : ℕ} → e ≡ Refused n p → placed.Other ≡ placed_as (component.Field f) next i
-  unfolding placed_as
-  place_broken b = rw (← a, b)
-
--- the instance of another component is no field
-module _ (d : Component) (next : BitPlace) (i : Instance) where
-  pub place_field : {f : FieldType} {r : Placed} → d ≡ component.Field f → r ≡ placed_as (component.Field f) next i → r ≡ placed_as d next i
-  place_field e h = rw e h
-
-  pub place_register : {r : Register} → d ≡ component.Register r → placed.Other ≡ placed_as d next i
-  unfolding placed_as
-  place_register e = rw e
-
-  pub place_regfile : {a : Given} → d ≡ component.Regfile a → placed.Other ≡ placed_as d next i
-  unfolding placed_as
-  place_regfile e = rw e
-
-  pub place_map : {a m : Given} → d ≡ component.Addrmap a m → placed.Other ≡ placed_as d next i
-  unfolding placed_as
-  place_map e = rw e
+use Rattle.basics.specs.Judged.{Verdict, Accepted, Refused, Judged, fine, fault}
+use Rattle.std.specs.Prelude.{Option, Some, None}
 
 -- a field ends within 64 bits
 pub placed_top : (d : Component) (next : BitPlace) (i : Instance) → top_of (placed_as d next i) ≤ next.0 + 63
 unfolding placed_as field_at
 placed_top (component.Field f) next i = by (instance_fault kind.Field i) refl
   where
-    by : (e : Fault) → instance_fault kind.Field i ≡ e → top_of (unless_broken e (field_at next i f)) ≤ next.0 + 63
-    by None q = sound_high next i q
+    by : (e : Verdict) → instance_fault kind.Field i ≡ e → top_of (unless_broken e (field_at next i f)) ≤ next.0 + 63
+    by Accepted q = sound_high next i q
     by (Refused n p) q = omega arith
 placed_top (component.Register r) next i = omega arith
 placed_top (component.Regfile a) next i = omega arith
 placed_top (component.Addrmap a m) next i = omega arith
 
-read_top : (t : List ℕ) (next : BitPlace) (r : ChildReading) → top_of (placed_read t next r) ≤ next.0 + 63
-read_top t next (child_reading.Done row i) = placed_top (component_in t row) next i
-read_top t next (child_reading.Refused n p) = omega arith
+read_top : (t : List ℕ) (next : BitPlace) (r : Judged (ℕ × Instance)) → top_of (placed_read t next r) ≤ next.0 + 63
+read_top t next (fine (row, i)) = placed_top (component_in t row) next i
+read_top t next (fault n p) = omega arith
 
 -- an instance with sound suffixes
-pub placed-sound : (d : Component) (next : BitPlace) (i : Instance) → instance_fault (kind_of d) i ≡ None → placed_as d next i ≡ placement d next i
+pub placed-sound : (d : Component) (next : BitPlace) (i : Instance) → instance_fault (kind_of d) i ≡ Accepted → placed_as d next i ≡ placement d next i
 unfolding placed_as
 placed-sound (component.Field f) next i e = rw e
 placed-sound (component.Register r) next i e = refl
@@ -98,56 +62,41 @@ placed-sound (component.Addrmap a m) next i e = refl
 
 -- the instance of a cell
 module _ (text t : List ℕ) (x : ℕ) (next : BitPlace) where
-  module _ {y : ChildReading} (a : y ≡ child_in text x) where
-    pub cell_done : {i : Instance} {row : ℕ} {d : Component} {r : Placed} → y ≡ child_reading.Done row i → d ≡ component_in t row → r ≡ placed_as d next i → r ≡ placed_in text t next x
-    unfolding placed_in
-    cell_done b f h = rw (← a, b, ← f) h
-
-    pub cell_stop : {n q : ℕ} → y ≡ child_reading.Refused n q → placed.Other ≡ placed_in text t next x
-    unfolding placed_in
-    cell_stop b = rw (← a, b)
-
   cell_top : top_of (placed_in text t next x) ≤ next.0 + 63
   unfolding placed_in
   cell_top = read_top t next (child_in text x)
 
-  cell_sound : {c : Child} {d : Component} → IsEntry text x c → component_in t c.type ≡ d → instance_fault (kind_of d) c.instance ≡ None → placed_in text t next x ≡ placement d next c.instance
+  cell_sound : {c : Child} {d : Component} → IsEntry text x c → component_in t c.type ≡ d → instance_fault (kind_of d) c.instance ≡ Accepted → placed_in text t next x ≡ placement d next c.instance
   unfolding placed_in
   cell_sound {c} {d} k g s = rw (child_entry text x k, g) (placed-sound d next c.instance s)
 
 -- where the next field starts
-pub field_top : (p : Placed) {f : FieldAt} → p ≡ placed.Field f → top_of p < sum_bound → f.high.0 < sum_bound
-field_top p e h = rw e at h
-
-pub above_field : (p : Placed) (next : BitPlace) {f : FieldAt} → p ≡ placed.Field f → record { 0 = f.high.0 + 1 } ≡ bit_above p next
-above_field p next e = rw (e, add-one)
-
-above_fits : (p : Placed) (next : BitPlace) {to i : ℕ} → i < to → top_of p ≤ next.0 + 63 → next.0 + 64 * (to - i) < sum_bound → (bit_above p next).0 + 64 * (to - (i + 1)) < sum_bound
-above_fits (placed.Field f) next h m l = omega arith
-above_fits placed.Other next h m l = omega arith
+above_fits : (p : Option FieldAt) (next : BitPlace) {to i : ℕ} → i < to → top_of p ≤ next.0 + 63 → next.0 + 64 * (to - i) < sum_bound → (bit_above p next).0 + 64 * (to - (i + 1)) < sum_bound
+above_fits (Some f) next h m l = omega arith
+above_fits None next h m l = omega arith
 
 -- what is asked of the fields, with one more before them
-some_here : (probe : Probe) (p : Placed) (fs : List FieldAt) → breaks_in probe p ≡ true → true ≡ some probe (with_placed p fs)
+some_here : (probe : Probe) (p : Option FieldAt) (fs : List FieldAt) → breaks_in probe p ≡ true → true ≡ some probe (with_placed p fs)
 unfolding some
-some_here probe (placed.Field f) fs e = rw e
-some_here probe placed.Other fs e = absurd (let z : ◌≡◌ {A = ℕ} 0 1 = cc in omega arith)
+some_here probe (Some f) fs e = rw e
+some_here probe None fs e = cc
 
-some_next : (probe : Probe) (p : Placed) (fs : List FieldAt) → breaks_in probe p ≡ false → some probe (with_placed p fs) ≡ some probe fs
+some_next : (probe : Probe) (p : Option FieldAt) (fs : List FieldAt) → breaks_in probe p ≡ false → some probe (with_placed p fs) ≡ some probe fs
 unfolding some
-some_next probe (placed.Field f) fs e = rw e
-some_next probe placed.Other fs e = refl
+some_next probe (Some f) fs e = rw e
+some_next probe None fs e = refl
 
 -- fields with one more behind them
-placed_last : (fs : List FieldAt) (p : Placed) (gs : List FieldAt) → fs ++ with_placed p gs ≡ (fs ++ with_placed p []) ++ gs
-placed_last fs (placed.Field f) gs = sym (append_assoc fs (f ∷ []) gs)
-placed_last fs placed.Other gs = rw (append-nil fs)
+placed_last : (fs : List FieldAt) (p : Option FieldAt) (gs : List FieldAt) → fs ++ with_placed p gs ≡ (fs ++ with_placed p []) ++ gs
+placed_last fs (Some f) gs = sym (append_assoc fs (f ∷ []) gs)
+placed_last fs None gs = rw (append-nil fs)
 
-overlap_last : (fs : List FieldAt) (p : Placed) {b : Bool} → b ≡ overlaps_earlier p fs → overlaps fs ≡ false → overlaps (fs ++ with_placed p []) ≡ b
-overlap_last fs (placed.Field f) e h = overlaps_last fs f ∙ (rw (h, e))
-overlap_last fs placed.Other e h = rw (append-nil fs, e) h
+overlap_last : (fs : List FieldAt) (p : Option FieldAt) {b : Bool} → b ≡ overlaps_earlier p fs → overlaps fs ≡ false → overlaps (fs ++ with_placed p []) ≡ b
+overlap_last fs (Some f) e h = overlaps_last fs f ∙ (rw (h, e))
+overlap_last fs None e h = rw (append-nil fs, e) h
 
 -- the field of the first cell, with those behind it
-fields_on : (text t : List ℕ) (next : BitPlace) (i to : ℕ) {p : Placed} → i < to → p ≡ placed_in text t next (cell_of t i)
+fields_on : (text t : List ℕ) (next : BitPlace) (i to : ℕ) {p : Option FieldAt} → i < to → p ≡ placed_in text t next (cell_of t i)
     → fields_in_cells text t next i (to - i) ≡ with_placed p (fields_in_cells text t (bit_above p next) (i + 1) (to - (i + 1)))
 unfolding fields_in_cells
 fields_on text t next i to h f =
@@ -173,14 +122,14 @@ module _ (text t : List ℕ) (from to : ℕ) (first : BitPlace) (probe : Probe) 
   pub next_fits : next.0 < sum_bound
   next_fits = let l = s.low in omega arith
 
-  pub top_fits : {p : Placed} → i < to → p ≡ placed_in text t next (cell_of t i) → top_of p < sum_bound
+  pub top_fits : {p : Option FieldAt} → i < to → p ≡ placed_in text t next (cell_of t i) → top_of p < sum_bound
   top_fits h f = let l = s.low in let m = cell_top text t (cell_of t i) next in rw f (omega arith)
 
   pub find_end : to ≤ i → false ≡ some probe (fields_in_cells text t first from (to - from))
   unfolding some
   find_end h = rw (fields_none text t next i to h) at s.same
 
-  module _ {p : Placed} {b : Bool} (h : i < to) (f : p ≡ placed_in text t next (cell_of t i)) (g : b ≡ breaks_in probe p) where
+  module _ {p : Option FieldAt} {b : Bool} (h : i < to) (f : p ≡ placed_in text t next (cell_of t i)) (g : b ≡ breaks_in probe p) where
     abbrev later : List FieldAt
     later = fields_in_cells text t (bit_above p next) (i + 1) (to - (i + 1))
 
@@ -195,18 +144,14 @@ module _ (text t : List ℕ) (from to : ℕ) (first : BitPlace) (probe : Probe) 
         }
 
 -- what some field breaks, so far or among those that are left, is what some of all breaks
-some_with : (probe : Probe) (p : Placed) (fs : List FieldAt) → some probe (with_placed p fs) ≡ (breaks_in probe p || some probe fs)
+some_with : (probe : Probe) (p : Option FieldAt) (fs : List FieldAt) → some probe (with_placed p fs) ≡ (breaks_in probe p || some probe fs)
 unfolding some
-some_with probe (placed.Field f) fs = refl
-some_with probe placed.Other fs = refl
+some_with probe (Some f) fs = refl
+some_with probe None fs = refl
 
 or_moved : (a b c : Bool) → ((a || b) || c) ≡ (a || (b || c))
 or_moved true b c = refl
 or_moved false b c = refl
-
-pub broken_made : (b : Broken) (reg : Register) (p : Placed) {x y z u v w : Bool} → x ≡ breaks_in Wide p → y ≡ breaks_in (Outside reg.width) p → z ≡ breaks_in (Span reg.access) p
-    → u ≡ (b.wide || x) → v ≡ (b.outside || y) → w ≡ (b.split || z) → record { wide = u; outside = v; split = w } ≡ broken_with b reg p
-broken_made b reg p e f g h i j = rw (h, i, j, e, f, g)
 
 pub record Breaking (text t : List ℕ) (from to : ℕ) (reg : Register) (i : ℕ) (next : BitPlace) (b : Broken) : Type 0 where
   pub low : next.0 + 64 * (to - i) < sum_bound
@@ -222,7 +167,7 @@ module _ (text t : List ℕ) (from to : ℕ) (reg : Register) where
     pub break_fits : next.0 < sum_bound
     break_fits = let l = s.low in omega arith
 
-    pub break_top : {p : Placed} → i < to → p ≡ placed_in text t next (cell_of t i) → top_of p < sum_bound
+    pub break_top : {p : Option FieldAt} → i < to → p ≡ placed_in text t next (cell_of t i) → top_of p < sum_bound
     break_top h f = let l = s.low in let m = cell_top text t (cell_of t i) next in rw f (omega arith)
 
     flag_end : (a : Bool) (probe : Probe) → to ≤ i → (a || some probe (fields_in_cells text t next i (to - i))) ≡ some probe (fields_between text t from to) → a ≡ some probe (fields_between text t from to)
@@ -236,7 +181,7 @@ module _ (text t : List ℕ) (from to : ℕ) (reg : Register) where
         let p = flag_end b.split (Span reg.access) h s.split in
         rw (← w, ← o, ← p)
 
-    module _ {p : Placed} (h : i < to) (f : p ≡ placed_in text t next (cell_of t i)) where
+    module _ {p : Option FieldAt} (h : i < to) (f : p ≡ placed_in text t next (cell_of t i)) where
       flag_on : (a : Bool) (probe : Probe) → (a || some probe (fields_in_cells text t next i (to - i))) ≡ some probe (fields_between text t from to)
           → ((a || breaks_in probe p) || some probe (fields_in_cells text t (bit_above p next) (i + 1) (to - (i + 1)))) ≡ some probe (fields_between text t from to)
       flag_on a probe e =
@@ -252,14 +197,6 @@ module _ (text t : List ℕ) (from to : ℕ) (reg : Register) where
             outside = flag_on b.outside (Outside reg.width) s.outside;
             split = flag_on b.split (Span reg.access) s.split;
           })
-
--- a field against the earlier ones
-module _ (p : Placed) (fs : List FieldAt) where
-  pub earlier_field : {f : FieldAt} {b : Bool} → p ≡ placed.Field f → b ≡ some (Overlap f) fs → b ≡ overlaps_earlier p fs
-  earlier_field e h = rw e h
-
-  pub earlier_other : p ≡ placed.Other → false ≡ overlaps_earlier p fs
-  earlier_other e = rw e
 
 -- of the fields that are passed none overlaps another, and those that are left stand behind them
 pub record Passing (text t : List ℕ) (from to i : ℕ) (next : BitPlace) : Type 0 where
@@ -281,13 +218,13 @@ module _ (text t : List ℕ) (from to : ℕ) where
     pub pass_fits : next.0 < sum_bound
     pass_fits = let l = s.low in omega arith
 
-    pub pass_top : {p : Placed} → i < to → p ≡ placed_in text t next (cell_of t i) → top_of p < sum_bound
+    pub pass_top : {p : Option FieldAt} → i < to → p ≡ placed_in text t next (cell_of t i) → top_of p < sum_bound
     pass_top h f = let l = s.low in let m = cell_top text t (cell_of t i) next in rw f (omega arith)
 
     pub overlap_end : to ≤ i → false ≡ overlaps (fields_between text t from to)
     overlap_end h = let a = s.reached in let b = s.begun in let z : to - from ≡ i - from = omega arith in rw z (sym s.apart)
 
-    module _ {p : Placed} {b : Bool} (h : i < to) (f : p ≡ placed_in text t next (cell_of t i)) (g : b ≡ overlaps_earlier p (fields_between text t from i)) where
+    module _ {p : Option FieldAt} {b : Bool} (h : i < to) (f : p ≡ placed_in text t next (cell_of t i)) (g : b ≡ overlaps_earlier p (fields_between text t from i)) where
       -- the fields with so many behind this one
       fields_more : (n : ℕ) → fields_in_cells text t first_bit from (i + 1 - from + n) ≡ (fields_between text t from i ++ with_placed p []) ++ fields_in_cells text t (bit_above p next) (i + 1) n
       unfolding fields_in_cells
@@ -295,7 +232,7 @@ module _ (text t : List ℕ) (from to : ℕ) where
           let a = s.begun in
           let z : i + 1 - from + n ≡ i - from + suc n = omega arith in
           let m : i + 1 ≡ suc i = add-one i in
-          let q : Placed = placed_in text t next (cell_of t i) in
+          let q : Option FieldAt = placed_in text t next (cell_of t i) in
           rw (z, s.split (suc n), m, f) (placed_last (fields_between text t from i) q (fields_in_cells text t (bit_above q next) (suc i) n))
 
       pub fields_last : fields_between text t from (i + 1) ≡ fields_between text t from i ++ with_placed p []
@@ -322,72 +259,6 @@ module _ (text t : List ℕ) (from to : ℕ) where
             split = λ k. rw (z, fields_last) (fields_more k);
             apart = rw fields_last (overlap_last (fields_between text t from i) p g s.apart ∙ y);
           }
-
--- 13 to 17
-module _ (fs : List FieldAt) (reg : Register) {b : Broken} (e : b ≡ broken_by reg fs) where
-  wide_is : some Wide fs ≡ b.wide
-  wide_is = rw e
-
-  outside_is : some (Outside reg.width) fs ≡ b.outside
-  outside_is = rw e
-
-  split_is : some (Span reg.access) fs ≡ b.split
-  split_is = rw e
-
-  pub register_wide : b.wide ≡ true → 13 ≡ register_fault reg fs
-  unfolding register_fault
-  register_wide y = rw (wide_is, y)
-
-  module _ (m : b.wide ≡ false) where
-    pub register_access : reg.width < reg.access → 14 ≡ register_fault reg fs
-    unfolding register_fault
-    register_access y = rw (wide_is, m, lt-ltb reg.width reg.access y)
-
-    module _ (n : reg.access ≤ reg.width) where
-      pub register_outside : b.outside ≡ true → 15 ≡ register_fault reg fs
-      unfolding register_fault
-      register_outside y = rw (wide_is, m, le-ltb reg.width reg.access n, outside_is, y)
-
-      module _ {c : Bool} (o : b.outside ≡ false) (over : c ≡ overlaps fs) where
-        pub register_overlap : c ≡ true → 16 ≡ register_fault reg fs
-        unfolding register_fault
-        register_overlap y = rw (wide_is, m, le-ltb reg.width reg.access n, outside_is, o, ← over, y)
-
-        module _ (p : c ≡ false) where
-          pub register_spans : b.split ≡ true → 17 ≡ register_fault reg fs
-          unfolding register_fault
-          register_spans y = rw (wide_is, m, le-ltb reg.width reg.access n, outside_is, o, ← over, p, split_is, y)
-
-          pub register_sound : b.split ≡ false → 0 ≡ register_fault reg fs
-          unfolding register_fault
-          register_sound y = rw (wide_is, m, le-ltb reg.width reg.access n, outside_is, o, ← over, p, split_is, y)
-
--- a body at its closing brace
-module _ (text t : List ℕ) (from to : ℕ) where
-  module _ (reg : Register) where
-    pub close_empty : from ≡ to → 10 ≡ closing_in text t from to (component.Register reg)
-    unfolding closing_in
-    close_empty e = rw (eq-eqb from to e)
-
-    pub close_full : {n : ℕ} → (from ≡ to → ⊥) → n ≡ register_fault reg (fields_between text t from to) → n ≡ closing_in text t from to (component.Register reg)
-    unfolding closing_in
-    close_full e h = rw (ne_eqb from to e) h
-
-  module _ (d : Component) {n : ℕ} where
-    pub close_field : {f : FieldType} → d ≡ component.Field f → n ≡ effect_fault f → n ≡ closing_in text t from to d
-    unfolding closing_in
-    close_field e h = rw e h
-
-    pub close_register : {r : Register} → d ≡ component.Register r → n ≡ closing_in text t from to (component.Register r) → n ≡ closing_in text t from to d
-    close_register e h = rw e h
-
-    pub close_regfile : {a : Given} → d ≡ component.Regfile a → n ≡ missing_fault from to → n ≡ closing_in text t from to d
-    unfolding closing_in
-    close_regfile e h = rw e h
-
-    pub close_map : {a m : Given} → d ≡ component.Addrmap a m → n ≡ missing_fault from to → n ≡ closing_in text t from to d
-    unfolding closing_in
-    close_map e h = rw e h
 
 -- the fields of the instances that stand in cells are those that the cells decode to
 stored_fields_lem : {text t : List ℕ} {table : List Definition} {to i : ℕ} {cs : List Child} (next : BitPlace) → HeldBetween text t table to i cs → fields_in_cells text t next i (to - i) ≡ fields_from table next cs

@@ -3,7 +3,6 @@ use mathlib.Core.Bool.{Bool, true, false, ◌||◌, ◌&&◌, or_assoc, or_comm,
 use mathlib.Core.Path.{◌≡◌, refl, sym, ◌∙◌}
 use mathlib.Core.List.{List, [], ◌∷◌, ◌++◌}
 use Prim.Native.Nat.{ℕ}
-use native.Mathlib.Omega.{arith}
 use lib.Dec.{eqb, leb}
 use Rattle.fields.specs.Codes.{access_code}
 use Rattle.fields.specs.declared.AccessRight.TheVariants as access
@@ -54,5 +53,5 @@ or_kept false false h e = h e
 
 pub overlaps_kept : (fs gs : List FieldAt) → overlaps fs ≡ true → overlaps (fs ++ gs) ≡ true
 unfolding overlaps
-overlaps_kept [] gs e = absurd (let z : ◌≡◌ {A = ℕ} 0 1 = cc in omega arith)
+overlaps_kept [] gs e = cc
 overlaps_kept (f ∷ fs) gs e = rw (some-append (Overlap f) fs gs) (or_kept (some (Overlap f) fs) (some (Overlap f) gs) (overlaps_kept fs gs) e)

@@ -1,5 +1,5 @@
 -- What is judged at a closing brace: 10 for a missing instance, 12 for a field, 13 to 17 for a register.
-use Rattle.std.specs.Prelude.{Bool, true, false, ◌||◌, List, [], ◌∷◌, ℕ, suc, ltb}
+use Rattle.std.specs.Prelude.{Bool, true, false, ◌||◌, List, [], ◌∷◌, ℕ, suc, ltb, Option, Some, None}
 use Rattle.std.specs.Prelude.{if◌then◌else◌}
 use Rattle.fields.specs.Fields.{breaks, has_unusable_effect}
 use Rattle.components.specs.Fields.{field_at}
@@ -12,25 +12,23 @@ use Rattle.components.specs.declared.Component.TheVariants as component
 use Rattle.parts.specs.declared.Instance.{Instance}
 use Rattle.fields.specs.declared.Probe.{Probe}
 use Rattle.fields.specs.declared.Probe.TheVariants.{Wide, Outside, Overlap, Span}
-use Rattle.closing_rules.specs.declared.Placed.{Placed}
-use Rattle.closing_rules.specs.declared.Placed.TheVariants as placed
 use Rattle.cells.specs.Definitions.{Child, Definition, definition_of}
 
 -- an instance as a field of a register, if its type is one
-abbrev pub placement : Component → BitPlace → Instance → Placed
-placement (component.Field f) next i = placed.Field (field_at next i f)
-placement (component.Register r) next i = placed.Other
-placement (component.Regfile a) next i = placed.Other
-placement (component.Addrmap a m) next i = placed.Other
+abbrev pub placement : Component → BitPlace → Instance → Option FieldAt
+placement (component.Field f) next i = Some (field_at next i f)
+placement (component.Register r) next i = None
+placement (component.Regfile a) next i = None
+placement (component.Addrmap a m) next i = None
 
 -- the bit above a field, where the next one starts unless it has a range
-abbrev pub bit_above : Placed → BitPlace → BitPlace
-bit_above (placed.Field f) next = record { 0 = suc f.high.0 }
-bit_above placed.Other next = next
+abbrev pub bit_above : Option FieldAt → BitPlace → BitPlace
+bit_above (Some f) next = record { 0 = suc f.high.0 }
+bit_above None next = next
 
-abbrev pub with_placed : Placed → List FieldAt → List FieldAt
-with_placed (placed.Field f) fs = f ∷ fs
-with_placed placed.Other fs = fs
+abbrev pub with_placed : Option FieldAt → List FieldAt → List FieldAt
+with_placed (Some f) fs = f ∷ fs
+with_placed None fs = fs
 
 -- the fields of a register, as declared, the first from the bit `next` on
 unfoldable pub fields_from : List Definition → BitPlace → List Child → List FieldAt

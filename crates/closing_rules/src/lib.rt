@@ -2,25 +2,18 @@
 #![tactic(auto)]
 
 ghost use Rattle.std.specs.Prelude.{◌≡◌, true, ◌+◌, ◌-◌, ◌*◌, ◌≤◌, ◌<◌};
+ghost use Rattle.basics.specs.Judged.{broken_number};
 ghost use Rattle.basics.specs.Limits.{sum_bound};
 ghost use Rattle.basics.specs.Slices.{cell_of};
 ghost use Rattle.cells.specs.Cells.{entry_places};
 ghost use Rattle.closing_rules.specs.Registers.{bit_above, some, overlaps, register_fault, effect_fault};
 ghost use Rattle.closing_rules.specs.Decoded.{placed_as, placed_in, fields_in_cells, fields_between, top_of, breaks_in, overlaps_earlier, is_narrow_in, meets_placed, cover_with_placed, broken_with, broken_by, missing_fault, closing_in};
 
-use basics::Fault;
-use cells::ChildReading;
+use basics::Rule;
 use components::Component;
 use cover::Cover;
 use fields::{BitPlace, FieldAt, FieldType, Probe, Register};
 use parts::{Instance, Kind};
-
-// A field of a register, or an instance that is none.
-#[derive(Clone, Copy)]
-pub enum Placed {
-    Field(FieldAt),
-    Other,
-}
 
 // Which rules some field of a register breaks: 13, 15, 17.
 #[derive(Clone, Copy)]
@@ -31,60 +24,59 @@ pub struct Broken {
 }
 
 // A field's instance at its place; an instance with unsound suffixes has none.
-fn place_field(next: BitPlace, instance: Instance, field: FieldType) -> Placed
+#[tactic(auto, unfolding(crate::specs::Decoded::placed_as), using(components::proofs::Laws::sound_width))]
+fn place_field(next: BitPlace, instance: Instance, field: FieldType) -> Option<FieldAt>
     requires { next.0 < sum_bound }
     ensures { result ≡ placed_as (Component.Field field) next instance }
 {
     match suffixes::instance_fault(Kind::Field, instance) {
-        Fault::None => Placed::Field(components::field_at(next, instance, field)),
-        Fault::Refused(_, _) => Placed::Other,
+        Ok(()) => Some(components::field_at(next, instance, field)),
+        Err(_) => None,
     }
 }
 
 // The instance of a component as a field, where `next` is the bit above the field before it.
-pub fn placed_as(component: Component, next: BitPlace, instance: Instance) -> Placed
+#[tactic(auto, unfolding(crate::specs::Decoded::placed_as))]
+pub fn placed_as(component: Component, next: BitPlace, instance: Instance) -> Option<FieldAt>
     requires { next.0 < sum_bound }
     ensures { result ≡ placed_as component next instance }
 {
     match component {
         Component::Field(field) => place_field(next, instance, field),
-        Component::Register(_) => Placed::Other,
-        Component::Regfile(_) => Placed::Other,
-        Component::Addrmap(_, _) => Placed::Other,
+        Component::Register(_) | Component::Regfile(_) | Component::Addrmap(_, _) => None,
     }
 }
 
 // The field of a cell.
-fn field_in(text: &[u8], cells: &[u64], i: usize, next: BitPlace) -> Placed
+#[tactic(auto, unfolding(crate::specs::Decoded::placed_in), using(cells::proofs::Laws::child_low))]
+fn field_in(text: &[u8], cells: &[u64], i: usize, next: BitPlace) -> Option<FieldAt>
     requires { next.0 < sum_bound }
     ensures { result ≡ placed_in text.now cells.now next (cell_of cells.now i) }
 {
     match cells::child_at(text, cells, i) {
-        ChildReading::Done(row, instance) => {
-            placed_as(cells::component_at(cells, row), next, instance)
-        }
-        ChildReading::Refused(_, _) => Placed::Other,
+        Ok((row, instance)) => placed_as(cells::component_at(cells, row), next, instance),
+        Err(_) => None,
     }
 }
 
 // Where the field behind this one starts.
-pub fn bit_above(placed: Placed, next: BitPlace) -> BitPlace
+pub fn bit_above(placed: Option<FieldAt>, next: BitPlace) -> BitPlace
     requires { top_of placed < sum_bound }
     ensures { result ≡ bit_above placed next }
 {
     match placed {
-        Placed::Field(field) => BitPlace(field.high.0 + 1),
-        Placed::Other => next,
+        Some(field) => BitPlace(field.high.0 + 1),
+        None => next,
     }
 }
 
-fn breaks_in(probe: Probe, placed: Placed) -> bool
+fn breaks_in(probe: Probe, placed: Option<FieldAt>) -> bool
     requires { top_of placed < sum_bound }
     ensures { result ≡ breaks_in probe placed }
 {
     match placed {
-        Placed::Field(field) => fields::breaks_rule(probe, field),
-        Placed::Other => false,
+        Some(field) => fields::breaks_rule(probe, field),
+        None => false,
     }
 }
 
@@ -100,29 +92,31 @@ fn any_field(
     requires { (to ≤ entry_places) × (first.0 + 64 * (to - from) < sum_bound) }
     ensures { result ≡ some probe (fields_in_cells text.now cells.now first from (to - from)) }
 {
-    let mut i = from;
     let mut next = first;
-    while i < to {
+    for i in from..to {
         let placed = field_in(text, cells, i, next);
         if breaks_in(probe, placed) {
             return true;
         }
         next = bit_above(placed, next);
-        i += 1;
     }
     false
 }
 
 // Whether a field overlaps an earlier one of its register unlawfully; the cells from one up to another hold the earlier ones.
-fn overlaps_earlier(text: &[u8], cells: &[u64], from: usize, to: usize, placed: Placed) -> bool
+fn overlaps_earlier(
+    text: &[u8],
+    cells: &[u64],
+    from: usize,
+    to: usize,
+    placed: Option<FieldAt>,
+) -> bool
     requires { to ≤ entry_places }
     ensures { result ≡ overlaps_earlier placed (fields_between text.now cells.now from to) }
 {
     match placed {
-        Placed::Field(field) => {
-            any_field(text, cells, from, to, BitPlace(0), Probe::Overlap(field))
-        }
-        Placed::Other => false,
+        Some(field) => any_field(text, cells, from, to, BitPlace(0), Probe::Overlap(field)),
+        None => false,
     }
 }
 
@@ -131,31 +125,26 @@ fn any_overlap_by_pairs(text: &[u8], cells: &[u64], from: usize, to: usize) -> b
     requires { to ≤ entry_places }
     ensures { result ≡ overlaps (fields_between text.now cells.now from to) }
 {
-    let mut i = from;
     let mut next = BitPlace(0);
-    while i < to {
+    for i in from..to {
         let placed = field_in(text, cells, i, next);
         if overlaps_earlier(text, cells, from, i, placed) {
             return true;
         }
         next = bit_above(placed, next);
-        i += 1;
     }
     false
 }
 
 // With one field more.
-fn broken_with(broken: Broken, register: Register, placed: Placed) -> Broken
+fn broken_with(broken: Broken, register: Register, placed: Option<FieldAt>) -> Broken
     requires { top_of placed < sum_bound }
     ensures { result ≡ broken_with broken register placed }
 {
-    let wide = breaks_in(Probe::Wide, placed);
-    let outside = breaks_in(Probe::Outside(register.width), placed);
-    let split = breaks_in(Probe::Span(register.access), placed);
     Broken {
-        wide: basics::either(broken.wide, wide),
-        outside: basics::either(broken.outside, outside),
-        split: basics::either(broken.split, split),
+        wide: broken.wide || breaks_in(Probe::Wide, placed),
+        outside: broken.outside || breaks_in(Probe::Outside(register.width), placed),
+        split: broken.split || breaks_in(Probe::Span(register.access), placed),
     }
 }
 
@@ -164,51 +153,49 @@ fn broken_by(text: &[u8], cells: &[u64], from: usize, to: usize, register: Regis
     requires { to ≤ entry_places }
     ensures { result ≡ broken_by register (fields_between text.now cells.now from to) }
 {
-    let mut i = from;
     let mut next = BitPlace(0);
     let mut broken = Broken {
         wide: false,
         outside: false,
         split: false,
     };
-    while i < to {
+    for i in from..to {
         let placed = field_in(text, cells, i, next);
         broken = broken_with(broken, register, placed);
         next = bit_above(placed, next);
-        i += 1;
     }
     broken
 }
 
 // Whether a cover can hold a field's bits.
-fn is_narrow_in(placed: Placed) -> bool
+fn is_narrow_in(placed: Option<FieldAt>) -> bool
     ensures { result ≡ is_narrow_in placed }
 {
     match placed {
-        Placed::Field(field) => cover::is_narrow(field),
-        Placed::Other => true,
+        Some(field) => cover::is_narrow(field),
+        None => true,
     }
 }
 
 // Whether some bit of a field is closed to it.
-fn meets_placed(closed: Cover, placed: Placed) -> bool
+fn meets_placed(closed: Cover, placed: Option<FieldAt>) -> bool
     requires { is_narrow_in placed ≡ true }
     ensures { result ≡ meets_placed closed placed }
 {
     match placed {
-        Placed::Field(field) => cover::meets(closed, field),
-        Placed::Other => false,
+        Some(field) => cover::meets(closed, field),
+        None => false,
     }
 }
 
 // With the bits that a field closes to later ones.
-fn with_placed(closed: Cover, placed: Placed) -> Cover
+fn with_placed(closed: Cover, placed: Option<FieldAt>) -> Cover
     requires { is_narrow_in placed ≡ true }
     ensures { result ≡ cover_with_placed closed placed }
 {
     match placed {
-        Placed::Field(field) => cover::with_field(closed, field),
-        Placed::Other => closed,
+        Some(field) => cover::with_field(closed, field),
+        None => closed,
     }
 }
 
@@ -218,10 +205,9 @@ fn any_overlap(text: &[u8], cells: &[u64], from: usize, to: usize) -> bool
     requires { to ≤ entry_places }
     ensures { result ≡ overlaps (fields_between text.now cells.now from to) }
 {
-    let mut i = from;
     let mut next = BitPlace(0);
     let mut closed = cover::nothing();
-    while i < to {
+    for i in from..to {
         let placed = field_in(text, cells, i, next);
         if !is_narrow_in(placed) {
             // never reached from a text: 15 is judged before, and no register is wider than 64 bits
@@ -232,73 +218,92 @@ fn any_overlap(text: &[u8], cells: &[u64], from: usize, to: usize) -> bool
         }
         closed = with_placed(closed, placed);
         next = bit_above(placed, next);
-        i += 1;
     }
     false
 }
 
-// The smallest number of 13 to 17 that a register breaks, or 0.
-fn register_fault(text: &[u8], cells: &[u64], from: usize, to: usize, register: Register) -> u8
+// The rule of the smallest number, 13 to 17, that a register breaks.
+#[tactic(auto, unfolding(crate::specs::Registers::register_fault))]
+fn register_fault(
+    text: &[u8],
+    cells: &[u64],
+    from: usize,
+    to: usize,
+    register: Register,
+) -> Result<(), Rule>
     requires { to ≤ entry_places }
-    ensures { result ≡ register_fault register (fields_between text.now cells.now from to) }
+    ensures { broken_number result ≡ register_fault register (fields_between text.now cells.now from to) }
 {
     let broken = broken_by(text, cells, from, to, register);
     if broken.wide {
-        return 13;
+        return Err(Rule::WideReset);
     }
     if register.width < register.access {
-        return 14;
+        return Err(Rule::WideAccess);
     }
     if broken.outside {
-        return 15;
+        return Err(Rule::FieldOutside);
     }
     if any_overlap(text, cells, from, to) {
-        return 16;
+        return Err(Rule::FieldsOverlap);
     }
     if broken.split {
-        return 17;
+        return Err(Rule::FieldSpansParts);
     }
-    0
+    Ok(())
 }
 
 // 10 where there is no instance.
-fn missing_fault(from: usize, to: usize) -> u8
-    ensures { result ≡ missing_fault from to }
+fn missing_fault(from: usize, to: usize) -> Result<(), Rule>
+    ensures { broken_number result ≡ missing_fault from to }
 {
     if from == to {
-        return 10;
+        Err(Rule::Misplaced)
+    } else {
+        Ok(())
     }
-    0
 }
 
-fn register_closing(text: &[u8], cells: &[u64], from: usize, to: usize, register: Register) -> u8
+#[tactic(auto, unfolding(crate::specs::Decoded::closing_in))]
+fn register_closing(
+    text: &[u8],
+    cells: &[u64],
+    from: usize,
+    to: usize,
+    register: Register,
+) -> Result<(), Rule>
     requires { to ≤ entry_places }
-    ensures { result ≡ closing_in text.now cells.now from to (Component.Register register) }
+    ensures { broken_number result ≡ closing_in text.now cells.now from to (Component.Register register) }
 {
-    if from == to {
-        return 10;
-    }
+    missing_fault(from, to)?;
     register_fault(text, cells, from, to, register)
 }
 
-fn field_closing(field: FieldType) -> u8
-    ensures { result ≡ effect_fault field }
+fn field_closing(field: FieldType) -> Result<(), Rule>
+    ensures { broken_number result ≡ effect_fault field }
 {
     if fields::has_unusable_effect(field) {
-        return 12;
+        Err(Rule::UnusableEffect)
+    } else {
+        Ok(())
     }
-    0
 }
 
-// The smallest number that a body breaks at its closing brace, or 0; the cells from one up to another hold its instances.
-pub fn closing_fault(text: &[u8], cells: &[u64], from: usize, to: usize, component: Component) -> u8
+// The rule of the smallest number that a body breaks at its closing brace; the cells from one up to another hold its instances.
+#[tactic(auto, unfolding(crate::specs::Decoded::closing_in))]
+pub fn closing_fault(
+    text: &[u8],
+    cells: &[u64],
+    from: usize,
+    to: usize,
+    component: Component,
+) -> Result<(), Rule>
     requires { to ≤ entry_places }
-    ensures { result ≡ closing_in text.now cells.now from to component }
+    ensures { broken_number result ≡ closing_in text.now cells.now from to component }
 {
     match component {
         Component::Field(field) => field_closing(field),
         Component::Register(register) => register_closing(text, cells, from, to, register),
-        Component::Regfile(_) => missing_fault(from, to),
-        Component::Addrmap(_, _) => missing_fault(from, to),
+        Component::Regfile(_) | Component::Addrmap(_, _) => missing_fault(from, to),
     }
 }

@@ -5,7 +5,7 @@ use mathlib.Core.List.{List, [], ◌∷◌}
 use Prim.Native.Nat.{ℕ, zero, suc, ◌+◌, ◌<◌}
 use native.Mathlib.Omega.{arith}
 use lib.ListN.{length}
-use Rattle.std.specs.Prelude.{if◌then◌else◌}
+use Rattle.std.specs.Prelude.{if◌then◌else◌, Some}
 use Rattle.components.specs.Components.{kind_of}
 use Rattle.fields.specs.declared.BitPlace.{BitPlace}
 use Rattle.components.specs.declared.Component.{Component}
@@ -13,7 +13,6 @@ use Rattle.components.specs.declared.Component.TheVariants as component
 use Rattle.cells.specs.Definitions.{Child, Definition, definition_of}
 use Rattle.closing_rules.specs.Registers.{placement, bit_above, first_bit}
 use Rattle.scopes.specs.Places.{may_hold}
-use Rattle.scopes.specs.declared.Enclosing.TheVariants.{Inside}
 use Rattle.definition_laws.specs.Sensible.{Sensible, ChildrenFit, children_none, children_more}
 use Rattle.sizes.proofs.Rows.{row_fits}
 use Rattle.row_laws.specs.Sound.{fields_in}
@@ -24,21 +23,21 @@ use Rattle.row_writer.specs.Entries.{bytes_in, with_field, row_fields, entries_o
 
 -- a definition that is a register is one of the table's
 register_low : (table : List Definition) (n : ℕ) → is_register (definition_of table n).component ≡ true → n < length table
-register_low [] n e = absurd (let z : ◌≡◌ {A = ℕ} 0 1 = cc in omega arith)
+register_low [] n e = cc
 register_low (d ∷ table) zero e = omega arith
 register_low (d ∷ table) (suc n) e = omega (arith, register_low table n e)
 
 -- what stands in a register is a field
-field_placed : (h k : Component) → is_register h ≡ true → may_hold (Inside (kind_of h)) (kind_of k) ≡ true → (name : List ℕ) (next : BitPlace) (c : Child) (rest : List Field)
+field_placed : (h k : Component) → is_register h ≡ true → may_hold (Some (kind_of h)) (kind_of k) ≡ true → (name : List ℕ) (next : BitPlace) (c : Child) (rest : List Field)
     → length (with_field name (placement k next c.instance) rest) ≡ suc (length rest)
 unfolding may_hold
 field_placed (component.Register g) (component.Field f) r e name next c rest = refl
-field_placed (component.Register g) (component.Register k) r e name next c rest = absurd (let z : ◌≡◌ {A = ℕ} 0 1 = cc in omega arith)
-field_placed (component.Register g) (component.Regfile k) r e name next c rest = absurd (let z : ◌≡◌ {A = ℕ} 0 1 = cc in omega arith)
-field_placed (component.Register g) (component.Addrmap k m) r e name next c rest = absurd (let z : ◌≡◌ {A = ℕ} 0 1 = cc in omega arith)
-field_placed (component.Field g) k r e name next c rest = absurd (let z : ◌≡◌ {A = ℕ} 0 1 = cc in omega arith)
-field_placed (component.Regfile g) k r e name next c rest = absurd (let z : ◌≡◌ {A = ℕ} 0 1 = cc in omega arith)
-field_placed (component.Addrmap g n) k r e name next c rest = absurd (let z : ◌≡◌ {A = ℕ} 0 1 = cc in omega arith)
+field_placed (component.Register g) (component.Register k) r e name next c rest = cc
+field_placed (component.Register g) (component.Regfile k) r e name next c rest = cc
+field_placed (component.Register g) (component.Addrmap k m) r e name next c rest = cc
+field_placed (component.Field g) k r e name next c rest = cc
+field_placed (component.Regfile g) k r e name next c rest = cc
+field_placed (component.Addrmap g n) k r e name next c rest = cc
 
 -- one field a row
 fields_counted : (text : List ℕ) (table before : List Definition) (h : Component) → is_register h ≡ true
@@ -47,8 +46,8 @@ fields_counted : (text : List ℕ) (table before : List Definition) (h : Compone
 unfolding row_fields
 fields_counted text table before h r same next children_none = refl
 fields_counted text table before h r same next (children_more {c} {cs} f fs) =
-    let k : may_hold (Inside (kind_of h)) (kind_of (definition_of table c.type).component) ≡ true
-    = ap (λ (d : Definition). may_hold (Inside (kind_of h)) (kind_of d.component)) (sym (same c.type f.before)) ∙ f.held in
+    let k : may_hold (Some (kind_of h)) (kind_of (definition_of table c.type).component) ≡ true
+    = ap (λ (d : Definition). may_hold (Some (kind_of h)) (kind_of d.component)) (sym (same c.type f.before)) ∙ f.held in
     let p = placement (definition_of table c.type).component next c.instance in
     field_placed h (definition_of table c.type).component r k (bytes_in text c.instance.name) next c (row_fields text table (bit_above p next) cs)
     ∙ ap (λ (n : ℕ). suc n) (fields_counted text table before h r same (bit_above p next) fs)

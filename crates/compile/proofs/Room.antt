@@ -2,7 +2,7 @@
 use mathlib.Core.Path.{◌≡◌, refl, sym, ap, ◌∙◌}
 use mathlib.Core.Bool.{Bool, true, false, ◌||◌, ◌&&◌, not}
 use mathlib.Core.List.{List, [], ◌∷◌, ◌++◌, append_assoc}
-use Prim.Native.Nat.{ℕ, suc, ◌+◌, ◌*◌, ◌<◌, ◌≤◌}
+use Prim.Native.Nat.{ℕ, suc, ◌+◌, ◌*◌, ◌≤◌}
 use native.Mathlib.Omega.{arith}
 use native.Mathlib.Numerals.{add-one}
 use lib.Dec.{leb, ltb}
@@ -11,15 +11,13 @@ use lib.Seq.{take-suc-set, drop-set-lt}
 use borrow.Author.Tests.{ltb-true, ltb-false, le-leb, lt-leb}
 use Rattle.basics.specs.Limits.{register_row_width, field_row_width, name_width, path_row_width}
 use Rattle.std.specs.Prelude.{if◌then◌else◌}
-use Rattle.basics.specs.Judged.{Judged, fine}
+use Rattle.basics.specs.Judged.{Judged, fault, fine}
 use Rattle.basics.specs.Slices.{written}
 use Rattle.map_walk.specs.declared.Counts.{Counts}
 use Rattle.rows.specs.Rows.{Map, Tables, tables, tables_of}
 use Rattle.row_laws.specs.Sound.{fields_in}
 use Rattle.row_laws.proofs.Tables.{length-register_table, length-path_table, length-field_table, length-label_table}
-use Rattle.compile.specs.declared.Compiled.{Compiled}
-use Rattle.compile.specs.declared.Compiled.TheVariants.{Accepted}
-use Rattle.compile.specs.Compiled.{is_short, refused, answered, over, over_all, lent_after}
+use Rattle.compile.specs.Compiled.{is_short, answered, over, over_all, lent_after}
 use Rattle.compile.specs.Stages.{has_room}
 
 -- cells written from an index on stand between the first cells and the rest
@@ -73,34 +71,34 @@ module _ (lent : Tables) (m : Map) {counts : Counts} (e : counts.registers ≡ l
         twice false = refl
 
     -- 22
-    module _ (x : not b ≡ true) where
+    module _ (x : b ≡ false) where
       is_short_lem : is_short lent (tables_of m) ≡ true
-      is_short_lem = sym short_is ∙ x
+      is_short_lem = sym short_is ∙ ap not x
 
-      pub room_refuses : {r : Compiled} → r ≡ refused 22 0 → r ≡ answered lent j
+      pub room_refuses : fault 22 0 ≡ answered lent j
       unfolding answered
-      room_refuses q = q ∙ ap (λ (k : Bool). if k then refused 22 0 else Accepted (length m.entries) (fields_in m.entries)) (sym is_short_lem) ∙ ap (answered lent) (sym z)
+      room_refuses = ap (λ (k : Bool). if k then fault 22 0 else fine (record { registers = length m.entries; fields = fields_in m.entries })) (sym is_short_lem) ∙ ap (answered lent) (sym z)
 
       pub room_kept : lent ≡ lent_after lent j
       unfolding lent_after
       room_kept = ap (λ (k : Bool). if k then lent else over_all (tables_of m) lent) (sym is_short_lem) ∙ ap (lent_after lent) (sym z)
 
     -- enough room
-    module _ (x : not b ≡ false) where
+    module _ (x : b ≡ true) where
       is_long : is_short lent (tables_of m) ≡ false
-      is_long = sym short_is ∙ x
+      is_long = sym short_is ∙ ap not x
 
-      pub room_accepts : Accepted counts.registers counts.fields ≡ answered lent j
+      pub room_accepts : fine counts ≡ answered lent j
       unfolding answered
       room_accepts =
-          ap (λ (k : ℕ). Accepted k counts.fields) e ∙ ap (λ (k : ℕ). Accepted (length m.entries) k) f
-          ∙ ap (λ (k : Bool). if k then refused 22 0 else Accepted (length m.entries) (fields_in m.entries)) (sym is_long) ∙ ap (answered lent) (sym z)
+          ap (λ (k : ℕ). fine (record { registers = k; fields = counts.fields })) e ∙ ap (λ (k : ℕ). fine (record { registers = length m.entries; fields = k })) f
+          ∙ ap (λ (k : Bool). if k then fault 22 0 else fine (record { registers = length m.entries; fields = fields_in m.entries })) (sym is_long) ∙ ap (answered lent) (sym z)
 
       long_four : (a b c d : Bool) → ((a || b) || (c || d)) ≡ false → (a ≡ false) × (b ≡ false) × (c ≡ false) × (d ≡ false)
-      long_four true b c d h = absurd (let z : ◌≡◌ {A = ℕ} 0 1 = cc in omega arith)
-      long_four false true c d h = absurd (let z : ◌≡◌ {A = ℕ} 0 1 = cc in omega arith)
-      long_four false false true d h = absurd (let z : ◌≡◌ {A = ℕ} 0 1 = cc in omega arith)
-      long_four false false false true h = absurd (let z : ◌≡◌ {A = ℕ} 0 1 = cc in omega arith)
+      long_four true b c d h = cc
+      long_four false true c d h = cc
+      long_four false false true d h = cc
+      long_four false false false true h = cc
       long_four false false false false h = (refl, refl, refl, refl)
 
       fits : (ltb (length lent.registers) (length (tables_of m).registers) ≡ false) × (ltb (length lent.paths) (length (tables_of m).paths) ≡ false)
@@ -126,26 +124,6 @@ module _ (lent : Tables) (m : Map) {counts : Counts} (e : counts.registers ≡ l
           (written_over lent.labels (tables_of m).labels (ltb-false _ _ fits.3))
           ∙ ap (λ (k : Bool). if k then lent else over_all (tables_of m) lent) (sym is_long)
           ∙ ap (lent_after lent) (sym z)
-
--- the four tests, one after another
-module _ (registers paths fields labels : ℕ) (counts : Counts) where
-  pub room_registers : registers < counts.registers * register_row_width → false ≡ has_room registers paths fields labels counts
-  unfolding has_room
-  room_registers h = rw (lt-leb (counts.registers * register_row_width) registers h)
-
-  module _ (a : counts.registers * register_row_width ≤ registers) where
-    pub room_paths : paths < counts.registers * path_row_width → false ≡ has_room registers paths fields labels counts
-    unfolding has_room
-    room_paths h = rw (le-leb (counts.registers * register_row_width) registers a, lt-leb (counts.registers * path_row_width) paths h)
-
-    module _ (b : counts.registers * path_row_width ≤ paths) where
-      pub room_fields : fields < counts.fields * field_row_width → false ≡ has_room registers paths fields labels counts
-      unfolding has_room
-      room_fields h = rw (le-leb (counts.registers * register_row_width) registers a, le-leb (counts.registers * path_row_width) paths b, lt-leb (counts.fields * field_row_width) fields h)
-
-      pub room_labels : counts.fields * field_row_width ≤ fields → leb (counts.fields * name_width) labels ≡ has_room registers paths fields labels counts
-      unfolding has_room
-      room_labels h = rw (le-leb (counts.registers * register_row_width) registers a, le-leb (counts.registers * path_row_width) paths b, le-leb (counts.fields * field_row_width) fields h)
 
 pub tables_are : {a a' b b' c c' d d' : List ℕ} → a ≡ a' → b ≡ b' → c ≡ c' → d ≡ d' → tables a b c d ≡ tables a' b' c' d'
 tables_are e f g h = rw (e, f, g, h)

@@ -5,28 +5,17 @@ use mathlib.Core.List.{List, [], ◌∷◌, ◌++◌}
 use Prim.Native.Nat.{ℕ, ◌<◌, ◌≤◌}
 use native.Mathlib.Omega.{arith}
 use lib.ListN.{length}
-use Rattle.basics.specs.Limits.{definition_limit, register_limit, field_limit}
+use Rattle.basics.specs.Limits.{register_limit, field_limit}
 use Rattle.std.specs.Prelude.{if◌then◌else◌}
 use Rattle.lex.specs.Words.{words_verdict}
-use Rattle.lex.specs.declared.Verdict.{Verdict}
-use Rattle.lex.specs.declared.Verdict.TheVariants as verdict
 use Rattle.parts.specs.Reading.{Parsed, ok, stop}
 use Rattle.parts.specs.declared.Name.{Name}
-use Rattle.basics.specs.declared.Fault.{Fault}
-use Rattle.basics.specs.declared.Fault.TheVariants.{None, Refused}
-use Rattle.basics.specs.Judged.{first_of, Judged, fault, fine, onward, found}
+use Rattle.basics.specs.Judged.{first_of, Judged, fault, fine, onward, found, Verdict, Accepted, Refused}
 use Rattle.syntax.specs.Tree.{Body}
 use Rattle.syntax.specs.Grammar.{file_at}
-use Rattle.basics.specs.Given.{or_else}
-use Rattle.basics.specs.declared.Given.{Given}
-use Rattle.fields.specs.Codes.{mode_code}
-use Rattle.fields.specs.declared.Mode.TheVariants as mode
 use Rattle.components.specs.declared.Component.{Component}
-use Rattle.components.specs.declared.Component.TheVariants as component
 use Rattle.cells.specs.Cells.{component_in, name_in}
 use Rattle.cells.specs.Definitions.{definition_of}
-use Rattle.scopes.specs.declared.Ruling.{Ruling}
-use Rattle.scopes.specs.declared.Ruling.TheVariants as ruling
 use Rattle.rules.specs.Judge.{Meaning, judge}
 use Rattle.rules.specs.Rules.{after_words, after_sentences, ruled, ruled_as, Held, held_all}
 use Rattle.definition_laws.proofs.Sensible.{judge_sensible}
@@ -43,8 +32,6 @@ use Rattle.recall.proofs.Keeping.{Shelving, shapes_stay}
 use Rattle.recall.proofs.Kept.{long_kept}
 use Rattle.map_rules.specs.Whole.{too_many, too_close, misplaced, overlapping, map_shapes, map_visits, map_fault}
 use Rattle.map_walk.specs.declared.Counts.{Counts}
-use Rattle.map_walk.specs.declared.Surveyed.{Surveyed}
-use Rattle.map_walk.specs.declared.Surveyed.TheVariants as surveyed
 use Rattle.register_log.specs.Log.{log_size}
 use Rattle.map_walk.specs.Walks.{Shaped, elements_of, registers_of, survey_fault, survey_of, logged_in}
 use Rattle.map_walk.proofs.Surveys.{FineSurvey, survey_fault_lem, survey_fine}
@@ -52,28 +39,26 @@ use Rattle.overlaps.specs.Charted.{Charted}
 use Rattle.row_writer.specs.Entries.{bytes_in}
 use Rattle.row_writer.specs.Writes.{entries_in}
 use Rattle.compile.proofs.Counts.{entries_counted, fields_among_lem}
-use Rattle.compile.specs.declared.Compiled.{Compiled}
-use Rattle.compile.specs.declared.Compiled.TheVariants.{Accepted}
-use Rattle.compile.specs.Compiled.{map_of, mapped, compiled, is_short, refused, answered, lent_after, compiled_numbers, answered_numbers}
+use Rattle.compile.specs.Compiled.{map_of, mapped, compiled, is_short, answered, lent_after, compiled_numbers, answered_numbers}
 use Rattle.compile.specs.Stages.{meaning_in, Filed, FiledIn, Charts, charts_fault, charts_fine}
 
 -- a refusal is answered, and nothing lent changes
 module _ (lent : Tables) {j : Judged Map} {n p : ℕ} (e : j ≡ fault n p) where
-  pub refused_answer : {r : Compiled} → r ≡ refused n p → r ≡ answered lent j
+  pub refused_answer : fault n p ≡ answered lent j
   unfolding answered
-  refused_answer f = f ∙ ap (answered lent) (sym e)
+  refused_answer = ap (answered lent) (sym e)
 
   pub refused_lent : lent ≡ lent_after lent j
   unfolding lent_after
   refused_lent = ap (lent_after lent) (sym e)
 
 -- an answer and the tables, with the answer in document 01's numbers
-pub compiled_told : (lent : Tables) (j : Judged Map) {r : Compiled} {u : Tables} → r ≡ answered lent j → u ≡ lent_after lent j
+pub compiled_told : (lent : Tables) (j : Judged Map) {r : Judged Counts} {u : Tables} → r ≡ answered lent j → u ≡ lent_after lent j
     → (r ≡ answered lent j) × ((u ≡ lent_after lent j) × (compiled_numbers r ≡ answered_numbers lent j))
 unfolding answered
 compiled_told lent j e f = (e, (f, ap compiled_numbers e ∙ by j))
   where
-    counted : (b : Bool) (m : Map) → compiled_numbers (if b then refused 22 0 else Accepted (length m.entries) (fields_in m.entries))
+    counted : (b : Bool) (m : Map) → compiled_numbers (if b then fault 22 0 else fine (record { registers = length m.entries; fields = fields_in m.entries }))
         ≡ (if b then (22 ∷ 0 ∷ 0 ∷ 0 ∷ []) else (0 ∷ 0 ∷ length m.entries ∷ fields_in m.entries ∷ []))
     counted true m = refl
     counted false m = refl
@@ -95,19 +80,19 @@ parsing_of text {m} e = worded (words_verdict text) e
   where
     read : (x : Parsed Body) → file_at text ≡ x → after_sentences text x ≡ fine m → Parsing text m
     read (ok b n) q j = record { tree = b; end = n; parsed = q; judged = j }
-    read (stop n p) q j = absurd (let z : ◌≡◌ {A = ℕ} 0 1 = cc in omega arith)
+    read (stop n p) q j = cc
 
     worded : (v : Verdict) → after_words v (after_sentences text (file_at text)) ≡ fine m → Parsing text m
-    worded verdict.Accepted j = read (file_at text) refl j
-    worded (verdict.Refused n p) j = absurd (let z : ◌≡◌ {A = ℕ} 0 1 = cc in omega arith)
+    worded Accepted j = read (file_at text) refl j
+    worded (Refused n p) j = cc
 
 -- the rules stage
-module _ (text t : List ℕ) (r : Ruling) (e : ruled_as text t r ≡ ruled text) where
-  pub compiled_fault : {m p : ℕ} → r ≡ ruling.Refused m p → compiled text ≡ fault m p
+module _ (text t : List ℕ) (r : Judged (ℕ × ℕ)) (e : ruled_as text t r ≡ ruled text) where
+  pub compiled_fault : {m p : ℕ} → r ≡ fault m p → compiled text ≡ fault m p
   unfolding compiled onward
   compiled_fault f = ap (λ (j : Judged Meaning). onward j (mapped text)) (sym e ∙ ap (ruled_as text t) f)
 
-  module _ {row closed : ℕ} (f : r ≡ ruling.Accepted row closed) where
+  module _ {row closed : ℕ} (f : r ≡ fine (row, closed)) where
     ruled-map : ruled text ≡ fine (meaning_in text t row closed)
     ruled-map = sym e ∙ ap (ruled_as text t) f
 
@@ -118,22 +103,22 @@ module _ (text t : List ℕ) (r : Ruling) (e : ruled_as text t r ≡ ruled text)
     pub filed_map : Held text t r → Filed text t row closed
     filed_map h = by (subst (Held text t) f h)
       where
-        by : Held text t (ruling.Accepted row closed) → Filed text t row closed
+        by : Held text t (fine (row, closed)) → Filed text t row closed
         by (held_all few holds) =
             let q = parsing_of text ruled-map in
             record { few = few; holds = holds; sensible = judge_sensible text q.tree q.judged; tree = q.tree; end = q.end; parsed = q.parsed }
 
 -- the whole map's faults, those of the survey first
-first_regrouped : (a b c d : Fault) → first_of a (first_of b (first_of c d)) ≡ first_of (first_of a (first_of b c)) d
+first_regrouped : (a b c d : Verdict) → first_of a (first_of b (first_of c d)) ≡ first_of (first_of a (first_of b c)) d
 first_regrouped (Refused n p) b c d = refl
-first_regrouped None (Refused n p) c d = refl
-first_regrouped None None c d = refl
+first_regrouped Accepted (Refused n p) c d = refl
+first_regrouped Accepted Accepted c d = refl
 
-first_sound : {a : Fault} (b : Fault) → a ≡ None → first_of a b ≡ b
-first_sound b e = ap (λ (x : Fault). first_of x b) e
+first_sound : {a : Verdict} (b : Verdict) → a ≡ Accepted → first_of a b ≡ b
+first_sound b e = ap (λ (x : Verdict). first_of x b) e
 
-first_broken : {a : Fault} (b : Fault) {n p : ℕ} → a ≡ Refused n p → first_of a b ≡ Refused n p
-first_broken b e = ap (λ (x : Fault). first_of x b) e
+first_broken : {a : Verdict} (b : Verdict) {n p : ℕ} → a ≡ Refused n p → first_of a b ≡ Refused n p
+first_broken b e = ap (λ (x : Verdict). first_of x b) e
 
 -- the map of the cells, in its mode
 abbrev in_mode : Extent → ℕ → Extent
@@ -146,18 +131,12 @@ module _ (text t : List ℕ) (row closed : ℕ) (f : Filed text t row closed) wh
   pub row_low : row < closed
   row_low = omega (arith, f.sensible.low, f.holds.count)
 
-  pub row_few : row < definition_limit
-  row_few = omega (arith, row_low, f.few)
-
   pub filed_in : {c : Component} {mode : ℕ} → c ≡ component_in t row → mode ≡ mode_of c → FiledIn text t (record { rows = closed; map = row; mode = mode })
   filed_in e q = record { filed = f; mode = q ∙ ap mode_of e }
 
 module _ (text t : List ℕ) (e : Extent) (g : FiledIn text t e) where
   pub map_low : e.map < e.rows
   map_low = row_low text t e.map e.rows g.filed
-
-  pub map_few : e.map < definition_limit
-  map_few = row_few text t e.map e.rows g.filed
 
   pub is_ready : Ready text t e
   is_ready = record { few = g.filed.few; holds = g.filed.holds; sensible = g.filed.sensible.table }
@@ -185,18 +164,18 @@ module _ (text t : List ℕ) (e : Extent) (g : FiledIn text t e) where
 
   mapped-broken : {n p : ℕ} → map_fault (meaning text t e) ≡ Refused n p → mapped text (meaning text t e) ≡ fault n p
   unfolding mapped
-  mapped-broken z = ap (λ (x : Fault). found x (fine (map_of text (meaning text t e)))) z
+  mapped-broken z = ap (λ (x : Verdict). found x (fine (map_of text (meaning text t e)))) z
 
-  mapped-sound : map_fault (meaning text t e) ≡ None → mapped text (meaning text t e) ≡ fine (map_of text (meaning text t e))
+  mapped-sound : map_fault (meaning text t e) ≡ Accepted → mapped text (meaning text t e) ≡ fine (map_of text (meaning text t e))
   unfolding mapped
-  mapped-sound z = ap (λ (x : Fault). found x (fine (map_of text (meaning text t e)))) z
+  mapped-sound z = ap (λ (x : Verdict). found x (fine (map_of text (meaning text t e)))) z
 
   -- the survey
-  module _ {s : Surveyed} (v : s ≡ survey_of text t e e.map) where
-    pub survey_refuses : {n p : ℕ} → s ≡ surveyed.Refused n p → {shapes log : List ℕ} → Charts text t shapes log e (surveyed.Refused n p)
+  module _ {s : Judged Counts} (v : s ≡ survey_of text t e e.map) where
+    pub survey_refuses : {n p : ℕ} → s ≡ fault n p → {shapes log : List ℕ} → Charts text t shapes log e (fault n p)
     survey_refuses z = charts_fault (mapped-broken (fault_of_lem ∙ first_broken _ (survey_fault_lem text t e e.map (sym z ∙ v))))
 
-    module _ (before : List ℕ) {log : List ℕ} (l : log ≡ logged_in text t before e e.map) (long : log_size ≤ length before) {counts : Counts} (z : s ≡ surveyed.Done counts) where
+    module _ (before : List ℕ) {log : List ℕ} (l : log ≡ logged_in text t before e e.map) (long : log_size ≤ length before) {counts : Counts} (z : s ≡ fine counts) where
       fine_survey : FineSurvey text t log e e.map counts.registers counts.fields
       fine_survey = survey_fine text t e e.map before (sym z ∙ v) long l
 
@@ -206,14 +185,14 @@ module _ (text t : List ℕ) (e : Extent) (g : FiledIn text t e) where
           (record { shaped = h; low = map_low; logs = f.logs; few = omega (arith, f.registers_are, f.registers_few); sound = f.sound }, f.registers_are)
 
       -- 21
-      module _ {o : Fault} (y : o ≡ overlapping (known text t e) (all_shapes text t e) [] (elements_of text t e e.map)) where
+      module _ {o : Verdict} (y : o ≡ overlapping (known text t e) (all_shapes text t e) [] (elements_of text t e e.map)) where
         overlap_last : map_fault (meaning text t e) ≡ o
         overlap_last = fault_of_lem ∙ first_sound _ fine_survey.sound ∙ sym y
 
-        pub overlap_refuses : {n p : ℕ} → o ≡ Refused n p → {shapes : List ℕ} → Charts text t shapes log e (surveyed.Refused n p)
+        pub overlap_refuses : {n p : ℕ} → o ≡ Refused n p → {shapes : List ℕ} → Charts text t shapes log e (fault n p)
         overlap_refuses w = charts_fault (mapped-broken (overlap_last ∙ w))
 
-        pub overlap_passes : o ≡ None → {shapes : List ℕ} → Shaped text t shapes e → Charts text t shapes log e (surveyed.Done counts)
+        pub overlap_passes : o ≡ Accepted → {shapes : List ℕ} → Shaped text t shapes e → Charts text t shapes log e (fine counts)
         overlap_passes w h =
             let f = fine_survey in
             charts_fine (mapped-sound (overlap_last ∙ w)) (survey_charts h).0 f.registers_are f.registers_few f.fields_are f.fields_few
@@ -237,7 +216,7 @@ module _ (text t : List ℕ) (e : Extent) (g : FiledIn text t e) where
     pub entries : counts.registers ≡ length (map_of text (meaning text t e)).entries
     pub counted : counts.fields ≡ fields_in (map_of text (meaning text t e)).entries
 
-  pub chart_of : {s log : List ℕ} {counts : Counts} → Charts text t s log e (surveyed.Done counts) → Chart s log counts
+  pub chart_of : {s log : List ℕ} {counts : Counts} → Charts text t s log e (fine counts) → Chart s log counts
   chart_of (charts_fine x k a b c d) =
       record {
         fine_map = x;
@@ -248,9 +227,5 @@ module _ (text t : List ℕ) (e : Extent) (g : FiledIn text t e) where
         counted = c ∙ fields_among_lem text (known text t e) g.filed.sensible.table (elements_of text t e e.map) ∙ ap fields_in (sym same_entries);
       }
 
--- the addressing of an address map
-pub mode_addressed : {c : Component} {a m : Given} {s r : ℕ} → c ≡ component.Addrmap a m → s ≡ mode_code mode.Regalign → r ≡ or_else s m → r ≡ mode_of c
-mode_addressed {m = m} e f g = g ∙ ap (λ (n : ℕ). or_else n m) f ∙ ap mode_of (sym e)
-
-pub chart_refused : {text t s log : List ℕ} {e : Extent} {n p : ℕ} → Charts text t s log e (surveyed.Refused n p) → mapped text (meaning_in text t e.map e.rows) ≡ fault n p
+pub chart_refused : {text t s log : List ℕ} {e : Extent} {n p : ℕ} → Charts text t s log e (fault n p) → mapped text (meaning_in text t e.map e.rows) ≡ fault n p
 chart_refused (charts_fault z) = z

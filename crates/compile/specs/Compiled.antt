@@ -9,8 +9,7 @@ use Rattle.row_laws.specs.Sound.{fields_in}
 use Rattle.rows.specs.Rows.{Map, Tables, tables, tables_of}
 use Rattle.map_rules.specs.Whole.{map_visits, map_fault, registers_among}
 use Rattle.row_writer.specs.Entries.{bytes_in, entries_of}
-use Rattle.compile.specs.declared.Compiled.{Compiled}
-use Rattle.compile.specs.declared.Compiled.TheVariants.{Refused, Accepted}
+use Rattle.map_walk.specs.declared.Counts.{Counts}
 
 -- the map of a text: the name of its definition, and its registers in map order
 abbrev pub map_of : List ℕ → Meaning → Map
@@ -35,13 +34,10 @@ is_short lent rows =
     (ltb (length lent.registers) (length rows.registers) || ltb (length lent.paths) (length rows.paths)) ||
     (ltb (length lent.fields) (length rows.fields) || ltb (length lent.labels) (length rows.labels))
 
-abbrev pub refused : ℕ → ℕ → Compiled
-refused n p = Refused n (record { at = p })
-
 -- what is answered: a refusal and its place, or how many register rows and field rows there are
-unfoldable pub answered : Tables → Judged Map → Compiled
-answered lent (fault n p) = refused n p
-answered lent (fine m) = if is_short lent (tables_of m) then refused 22 0 else Accepted (length m.entries) (fields_in m.entries)
+unfoldable pub answered : Tables → Judged Map → Judged Counts
+answered lent (fault n p) = fault n p
+answered lent (fine m) = if is_short lent (tables_of m) then fault 22 0 else fine (record { registers = length m.entries; fields = fields_in m.entries })
 
 -- "the first rows .. are written, the rest stay"
 abbrev pub over : List ℕ → List ℕ → List ℕ
@@ -57,9 +53,9 @@ lent_after lent (fault n p) = lent
 lent_after lent (fine m) = if is_short lent (tables_of m) then lent else over_all (tables_of m) lent
 
 -- an answer in document 01's numbers: the refusal or 0, its place, and the counts of register rows and field rows, 0 where it is refused
-abbrev pub compiled_numbers : Compiled → List ℕ
-compiled_numbers (Refused n p) = n ∷ p.at ∷ 0 ∷ 0 ∷ []
-compiled_numbers (Accepted r f) = 0 ∷ 0 ∷ r ∷ f ∷ []
+abbrev pub compiled_numbers : Judged Counts → List ℕ
+compiled_numbers (fault n p) = n ∷ p ∷ 0 ∷ 0 ∷ []
+compiled_numbers (fine counts) = 0 ∷ 0 ∷ counts.registers ∷ counts.fields ∷ []
 
 -- the numbers of what is answered
 abbrev pub answered_numbers : Tables → Judged Map → List ℕ

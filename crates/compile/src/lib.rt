@@ -2,35 +2,24 @@
 #![tactic(auto)]
 
 ghost use Rattle.std.specs.Prelude.{◌≡◌, ◌≤◌, length};
+ghost use Rattle.basics.specs.Judged.{fine, judged};
 ghost use Rattle.basics.specs.Limits.{register_limit, field_limit};
 ghost use Rattle.layout.specs.Layout.{mode_of};
 ghost use Rattle.recall.specs.Shelves.{recall_size};
 ghost use Rattle.register_log.specs.Log.{log_size};
 ghost use Rattle.map_walk.specs.Walks.{Shaped};
 ghost use Rattle.rows.specs.Rows.{tables};
-ghost use Rattle.compile.specs.Compiled.{refused, mapped, compiled, answered, lent_after, compiled_numbers, answered_numbers};
+ghost use Rattle.compile.specs.Compiled.{mapped, compiled, answered, lent_after, compiled_numbers, answered_numbers};
 ghost use Rattle.compile.specs.Stages.{Filed, FiledIn, Charts, meaning_in, has_room};
 
-use basics::Fault;
+use basics::{Refusal, Rule};
 use components::Component;
 use fields::Mode;
-use lex::Place;
-use map_walk::{Counts, Surveyed};
-use scopes::Ruling;
+use map_walk::Counts;
 use sizes::Extent;
 
-// A refusal's number and place, or how many register rows and field rows were written.
-#[derive(Clone, Copy)]
-pub enum Compiled {
-    Refused(u8, Place),
-    Accepted(usize, usize),
-}
-
-fn refuse(number: u8, at: usize) -> Compiled
-    ensures { result ≡ refused number at }
-{
-    Compiled::Refused(number, Place { at })
-}
+// How many register rows and field rows were written, or the refusal.
+pub type Compiled = Result<Counts, Refusal>;
 
 // The addressing of an address map.
 fn mode_of(component: Component) -> u64
@@ -38,28 +27,21 @@ fn mode_of(component: Component) -> u64
 {
     let standard = fields::mode_code(Mode::Regalign);
     match component {
-        Component::Field(_) => standard,
-        Component::Register(_) => standard,
-        Component::Regfile(_) => standard,
-        Component::Addrmap(_, addressing) => basics::or_else(standard, addressing),
+        Component::Addrmap(_, addressing) => addressing.unwrap_or(standard),
+        _ => standard,
     }
 }
 
 // Whether the lent tables hold so many register rows and field rows.
+#[tactic(auto, unfolding(crate::specs::Stages::has_room))]
 fn is_room(registers: usize, paths: usize, fields: usize, labels: usize, counts: Counts) -> bool
     requires { (counts.registers ≤ register_limit) × (counts.fields ≤ field_limit) }
     ensures { result ≡ has_room registers paths fields labels counts }
 {
-    if registers < counts.registers * basics::REGISTER_ROW_WIDTH {
-        return false;
-    }
-    if paths < counts.registers * basics::PATH_ROW_WIDTH {
-        return false;
-    }
-    if fields < counts.fields * basics::FIELD_ROW_WIDTH {
-        return false;
-    }
-    counts.fields * basics::NAME_WIDTH <= labels
+    counts.registers * basics::REGISTER_ROW_WIDTH <= registers
+        && counts.registers * basics::PATH_ROW_WIDTH <= paths
+        && counts.fields * basics::FIELD_ROW_WIDTH <= fields
+        && counts.fields * basics::NAME_WIDTH <= labels
 }
 
 // What the passes over the map use: the shapes of all definitions, and behind them the instances that are long to read.
@@ -79,20 +61,14 @@ fn judge_map(
     shapes: &mut [u64],
     log: &mut [u64],
     extent: Extent,
-) -> Surveyed
+) -> Compiled
     requires { FiledIn text.now cells.now extent × (recall_size ≤ length shapes.old) × (log_size ≤ length log.old) }
-    ensures { Charts text.now cells.now shapes.new log.new extent result }
+    ensures { Charts text.now cells.now shapes.new log.new extent (judged result) }
 {
     prepare(text, cells, shapes, extent);
-    match map_walk::survey(text, cells, shapes, log, extent) {
-        Surveyed::Refused(number, at) => Surveyed::Refused(number, at),
-        Surveyed::Done(counts) => {
-            match overlaps::first_overlap(text, cells, shapes, log, extent, counts.registers) {
-                Fault::Refused(number, at) => Surveyed::Refused(number, at),
-                Fault::None => Surveyed::Done(counts),
-            }
-        }
-    }
+    let found = map_walk::survey(text, cells, shapes, log, extent)?;
+    overlaps::first_overlap(text, cells, shapes, log, extent, found.registers)?;
+    Ok(found)
 }
 
 // Writes the rows of a map that keeps all rules: 22 where a lent table is too short. What is known and what is lent are eight slices.
@@ -108,8 +84,8 @@ fn write_map(
     fields: &mut [u64],
     labels: &mut [u8],
 ) -> Compiled
-    requires { FiledIn text.now cells.now extent × Charts text.now cells.now shapes.now log.now extent (Surveyed.Done counts) }
-    ensures answer { result ≡ answered (tables registers.old paths.old fields.old labels.old) (mapped text.now (meaning_in text.now cells.now extent.map extent.rows)) }
+    requires { FiledIn text.now cells.now extent × Charts text.now cells.now shapes.now log.now extent (fine counts) }
+    ensures answer { judged result ≡ answered (tables registers.old paths.old fields.old labels.old) (mapped text.now (meaning_in text.now cells.now extent.map extent.rows)) }
     ensures lent { tables registers.new paths.new fields.new labels.new ≡ lent_after (tables registers.old paths.old fields.old labels.old) (mapped text.now (meaning_in text.now cells.now extent.map extent.rows)) }
 {
     if !is_room(
@@ -119,7 +95,7 @@ fn write_map(
         labels.len(),
         counts,
     ) {
-        return refuse(22, 0);
+        return Err(Rule::NoRoom.at(0));
     }
     row_writer::write_rows(
         text,
@@ -133,7 +109,7 @@ fn write_map(
         fields,
         labels,
     );
-    Compiled::Accepted(counts.registers, counts.fields)
+    Ok(counts)
 }
 
 // Compiles a text whose definitions keep the rules.
@@ -148,7 +124,7 @@ fn compile_map(
     labels: &mut [u8],
 ) -> Compiled
     requires { Filed text.now cells.now row closed }
-    ensures answer { result ≡ answered (tables registers.old paths.old fields.old labels.old) (mapped text.now (meaning_in text.now cells.now row closed)) }
+    ensures answer { judged result ≡ answered (tables registers.old paths.old fields.old labels.old) (mapped text.now (meaning_in text.now cells.now row closed)) }
     ensures lent { tables registers.new paths.new fields.new labels.new ≡ lent_after (tables registers.old paths.old fields.old labels.old) (mapped text.now (meaning_in text.now cells.now row closed)) }
 {
     let mut shapes = [0u64; recall::RECALL_SIZE];
@@ -159,12 +135,10 @@ fn compile_map(
         map: row,
         mode,
     };
-    match judge_map(text, cells, &mut shapes, &mut log, extent) {
-        Surveyed::Refused(number, at) => refuse(number, at),
-        Surveyed::Done(counts) => write_map(
-            text, cells, &shapes, &log, extent, counts, registers, paths, fields, labels,
-        ),
-    }
+    let counts = judge_map(text, cells, &mut shapes, &mut log, extent)?;
+    write_map(
+        text, cells, &shapes, &log, extent, counts, registers, paths, fields, labels,
+    )
 }
 
 // The rows of a text's map in the lent tables, and how many there are; or the first refusal, and the tables are as they were.
@@ -175,15 +149,11 @@ pub fn compile(
     fields: &mut [u64],
     labels: &mut [u8],
 ) -> Compiled
-    ensures answer { result ≡ answered (tables registers.old paths.old fields.old labels.old) (compiled text.now) }
+    ensures answer { judged result ≡ answered (tables registers.old paths.old fields.old labels.old) (compiled text.now) }
     ensures lent { tables registers.new paths.new fields.new labels.new ≡ lent_after (tables registers.old paths.old fields.old labels.old) (compiled text.now) }
-    ensures numbers { compiled_numbers result ≡ answered_numbers (tables registers.old paths.old fields.old labels.old) (compiled text.now) }
+    ensures numbers { compiled_numbers (judged result) ≡ answered_numbers (tables registers.old paths.old fields.old labels.old) (compiled text.now) }
 {
     let mut cells = [0u64; cells::SIZE];
-    match rules::define(text, &mut cells) {
-        Ruling::Refused(number, at) => refuse(number, at),
-        Ruling::Accepted(row, closed) => {
-            compile_map(text, &cells, row, closed, registers, paths, fields, labels)
-        }
-    }
+    let (row, closed) = rules::define(text, &mut cells)?;
+    compile_map(text, &cells, row, closed, registers, paths, fields, labels)
 }

@@ -13,7 +13,6 @@ use Rattle.parts.specs.declared.Array.{Array}
 use Rattle.parts.specs.declared.Array.TheVariants as array
 use Rattle.parts.specs.declared.Instance.{Instance}
 use Rattle.suffixes.specs.Suffixes.{instance_fault}
-use Rattle.basics.specs.declared.Fault.TheVariants.{None}
 use Rattle.components.specs.Components.{kind_of}
 use Rattle.fields.specs.Fields.{is_readable, is_writable, has_unusable_effect, is_reset_wide, is_outside, breaks}
 use Rattle.components.specs.Fields.{width_in, low_bit, high_bit, field_at}
@@ -27,10 +26,7 @@ use Rattle.fields.specs.declared.Probe.TheVariants.{Wide, Outside}
 use Rattle.components.proofs.Laws.{sound_width}
 use Rattle.cells.specs.Definitions.{Child, Definition, definition_of}
 use Rattle.closing_rules.specs.Registers.{placement, bit_above, with_placed, fields_from, some, closing_fault}
-use Rattle.closing_rules.specs.declared.Placed.{Placed}
-use Rattle.closing_rules.specs.declared.Placed.TheVariants as placed
 use Rattle.scopes.specs.Places.{may_hold}
-use Rattle.scopes.specs.declared.Enclosing.TheVariants.{Inside}
 use Rattle.definition_laws.specs.Sensible.{Sensible, ValuesFit, field_fits, ChildrenFit, children_none, children_more}
 use Rattle.sizes.proofs.Rows.{RowFits, row_fits}
 use Rattle.rows.specs.Rows.{Field}
@@ -41,6 +37,8 @@ use Rattle.compile_laws.specs.Named.{ChildNamed}
 use Rattle.row_writer.specs.Entries.{bytes_in, with_field, row_fields}
 use Rattle.basics.proofs.All.{all_both, all_map}
 use Rattle.compile_laws.proofs.Lists.{all_first, all_rest, not_of, none_test}
+use Rattle.basics.specs.Judged.{Accepted}
+use Rattle.std.specs.Prelude.{Option, Some, None}
 
 -- the ranges of a field's values
 field_ranges : {f : FieldType} → ValuesFit (component.Field f) → (f.sw ≤ 3) × ((f.hw ≤ 3) × ((f.onread ≤ 2) × (f.onwrite ≤ 8)))
@@ -67,7 +65,7 @@ bits_order next (array.Size mark n) h = omega arith
 bits_order next (array.Range mark left right) h = omega (arith, h)
 
 module _ (next : BitPlace) (i : Instance) (f : FieldType) where
-  bits_rise : instance_fault kind.Field i ≡ None → leb (field_at next i f).low.0 (field_at next i f).high.0 ≡ true
+  bits_rise : instance_fault kind.Field i ≡ Accepted → leb (field_at next i f).low.0 (field_at next i f).high.0 ≡ true
   unfolding field_at
   bits_rise e = le-leb (low_bit next i.array).0 (high_bit next i.array).0 (bits_order next i.array (sound_width i e).0)
 
@@ -94,17 +92,17 @@ abbrev pub Unbroken : Probe → Field → Type 0
 Unbroken p f = breaks p f.at ≡ false
 
 module _ (p : Probe) (rest : List FieldAt) (rows : List Field) where
-  child_keeps : (name : List ℕ) (q : Placed) → some p (with_placed q rest) ≡ false → (some p rest ≡ false → All (Unbroken p) rows)
+  child_keeps : (name : List ℕ) (q : Option FieldAt) → some p (with_placed q rest) ≡ false → (some p rest ≡ false → All (Unbroken p) rows)
       → All (Unbroken p) (with_field name q rows)
-  child_keeps name (placed.Field f) e later = all_more (none_first p f rest e) (later (none_later p f rest e))
-  child_keeps name placed.Other e later = later e
+  child_keeps name (Some f) e later = all_more (none_first p f rest e) (later (none_later p f rest e))
+  child_keeps name None e later = later e
 
 pub rows_keep : (text : List ℕ) (table : List Definition) (p : Probe) (next : BitPlace) (cs : List Child) → some p (fields_from table next cs) ≡ false
     → All (Unbroken p) (row_fields text table next cs)
 unfolding fields_from row_fields
 rows_keep text table p next [] e = all_none
 rows_keep text table p next (c ∷ cs) e =
-    let q : Placed = placement (definition_of table c.type).component next c.instance in
+    let q : Option FieldAt = placement (definition_of table c.type).component next c.instance in
     let above : BitPlace = bit_above q next in
     child_keeps p (fields_from table above cs) (row_fields text table above cs) (bytes_in text c.instance.name) q e (λ r. rows_keep text table p above cs r)
 
@@ -115,7 +113,7 @@ record Keeps (width : ℕ) (f : Field) : Type 0 where
 
 -- an instance in a register
 field_sound : (text : List ℕ) (width : ℕ) (f : FieldType) (next : BitPlace) (c : Child) (table : List Definition) (cs : List Child)
-    → ValuesFit (component.Field f) → closing_fault table (component.Field f) cs ≡ 0 → instance_fault kind.Field c.instance ≡ None → ChildNamed text c
+    → ValuesFit (component.Field f) → closing_fault table (component.Field f) cs ≡ 0 → instance_fault kind.Field c.instance ≡ Accepted → ChildNamed text c
     → Keeps width (record { name = bytes_in text c.instance.name; at = field_at next c.instance f })
     → SoundField width (record { name = bytes_in text c.instance.name; at = field_at next c.instance f })
 unfolding breaks
@@ -128,15 +126,15 @@ field_sound text width f next c table cs h e s n k =
     }
 
 child_sound : (text : List ℕ) (width : ℕ) (d : Component) (next : BitPlace) (c : Child) (table : List Definition) (cs : List Child) (rows : List Field)
-    → may_hold (Inside kind.Reg) (kind_of d) ≡ true → ValuesFit d → closing_fault table d cs ≡ 0 → instance_fault (kind_of d) c.instance ≡ None → ChildNamed text c
+    → may_hold (Some kind.Reg) (kind_of d) ≡ true → ValuesFit d → closing_fault table d cs ≡ 0 → instance_fault (kind_of d) c.instance ≡ Accepted → ChildNamed text c
     → All (Keeps width) (with_field (bytes_in text c.instance.name) (placement d next c.instance) rows) → (All (Keeps width) rows → All (SoundField width) rows)
     → All (SoundField width) (with_field (bytes_in text c.instance.name) (placement d next c.instance) rows)
 unfolding may_hold
 child_sound text width (component.Field f) next c table cs rows m h e s n k later =
     all_more (field_sound text width f next c table cs h e s n (all_first k)) (later (all_rest k))
-child_sound text width (component.Register r) next c table cs rows m h e s n k later = absurd (let z : ◌≡◌ {A = ℕ} 0 1 = cc in omega arith)
-child_sound text width (component.Regfile a) next c table cs rows m h e s n k later = absurd (let z : ◌≡◌ {A = ℕ} 0 1 = cc in omega arith)
-child_sound text width (component.Addrmap a b) next c table cs rows m h e s n k later = absurd (let z : ◌≡◌ {A = ℕ} 0 1 = cc in omega arith)
+child_sound text width (component.Register r) next c table cs rows m h e s n k later = cc
+child_sound text width (component.Regfile a) next c table cs rows m h e s n k later = cc
+child_sound text width (component.Addrmap a b) next c table cs rows m h e s n k later = cc
 
 -- the fields of a register behind others
 rows_sound : (text : List ℕ) (before : List Definition) (width : ℕ) (h : Component) (next : BitPlace) {cs : List Child} → Sensible before → kind_of h ≡ kind.Reg

@@ -5,12 +5,11 @@ use mathlib.Core.Path.{◌≡◌, ap}
 use mathlib.Core.List.{List}
 use Prim.Native.Nat.{ℕ}
 use Rattle.lex.specs.Words.{words_verdict}
-use Rattle.lex.specs.declared.Verdict.TheVariants.{Accepted}
 use Rattle.parts.specs.Reading.{ok}
 use Rattle.syntax.specs.Tree.{Body}
 use Rattle.syntax.specs.Grammar.{file_at}
 use Rattle.basics.specs.All.{In}
-use Rattle.basics.specs.Judged.{Judged, fault, fine, onward}
+use Rattle.basics.specs.Judged.{Judged, fault, fine, onward, Accepted}
 use Rattle.rules.specs.Judge.{Meaning}
 use Rattle.rules.specs.Rules.{ruled}
 use Rattle.order_laws.specs.Order.{Check, checks_of, Foremost}

@@ -12,8 +12,6 @@ use Rattle.parts.specs.declared.Kind.{Kind}
 use Rattle.parts.specs.declared.Kind.TheVariants as kind
 use Rattle.parts.specs.declared.Instance.{Instance}
 use Rattle.parts.specs.declared.Header.{Header}
-use Rattle.parts.specs.declared.DefinedName.{DefinedName}
-use Rattle.parts.specs.declared.DefinedName.TheVariants.{Unnamed, Named}
 use Rattle.parts.specs.declared.Assignment.{Assignment}
 use Rattle.suffixes.specs.Suffixes.{instance_fault}
 use Rattle.syntax.specs.Tree.{Elem, Body}
@@ -22,16 +20,12 @@ use Rattle.basics.specs.Judged.{Judged, fine}
 use Rattle.properties.specs.Assigned.{nearest, no_settings}
 use Rattle.properties.specs.Properties.{judge_property}
 use Rattle.basics.specs.Given.{is_given}
-use Rattle.basics.specs.declared.Given.{Given}
-use Rattle.basics.specs.declared.Given.TheVariants.{Nothing, Number}
 use Rattle.properties.specs.declared.Settings.{Settings}
 use Rattle.components.specs.Components.{component_of, kind_of}
 use Rattle.components.specs.declared.Component.{Component}
 use Rattle.cells.specs.Definitions.{Child, Definition, no_definition, definition_of, names_of, name_or, VisibleType, lookup}
 use Rattle.closing_rules.specs.Registers.{closing_fault}
 use Rattle.scopes.specs.Places.{may_define, may_hold, is_bad_map}
-use Rattle.scopes.specs.declared.Enclosing.{Enclosing}
-use Rattle.scopes.specs.declared.Enclosing.TheVariants.{Root, Inside}
 use Rattle.basics.specs.Limits.{definition_limit}
 use Rattle.rules.specs.Judge.{Known, State, opening, judge_instances, judge_use, judge_setting, type_twice, name_place, Made, last_of, closed, declared, judge_definition, judge_elem, judge_body, Meaning, meaning_of, judge_file, judge}
 use Rattle.rules.proofs.Closing.{kind_of_component}
@@ -40,6 +34,7 @@ use Rattle.basics.proofs.Each.{Each, each_fault, each_fine, each_unless, each_fo
 use Rattle.basics.specs.All.{All, all_none, all_more}
 use Rattle.compile_laws.specs.Named.{IsNamed, ChildNamed}
 use Rattle.compile_laws.proofs.Readings.{InstanceNamed, MaybeNamed, ElemNamed, definition_named, instances_named, property_named, BodyNamed, close_named, more_named}
+use Rattle.std.specs.Prelude.{Option, Some, None}
 
 all_last : {A : Type 0} {P : A → Type 0} {xs : List A} (x : A) → All P xs → P x → All P (xs ++ (x ∷ []))
 all_last x all_none h = all_more h all_none
@@ -73,7 +68,7 @@ module _ (text : List ℕ) where
   abbrev MeaningNamed : Meaning → Type 0
   MeaningNamed m = TableNamed m.table
 
-  instances_held : (b : Enclosing) (k : Kind) (n : ℕ) (is : List Instance) {held : List Child} → All (InstanceNamed text) is → ChildrenNamed held
+  instances_held : (b : Option Kind) (k : Kind) (n : ℕ) (is : List Instance) {held : List Child} → All (InstanceNamed text) is → ChildrenNamed held
       → Each ChildrenNamed (judge_instances text b k n is held)
   unfolding judge_instances
   instances_held b k n [] all_none h = each_fine h
@@ -82,29 +77,29 @@ module _ (text : List ℕ) where
       each_unless ChildrenNamed (not (may_hold b k)) 10 i.name.start (λ _.
       each_found ChildrenNamed (instance_fault k i) (λ _. instances_held b k n is xs (all_last (record { instance = i; type = n }) h x))))
 
-  use_stands : (b : Enclosing) (n : Name) (is : List Instance) (s : State) (g : Given) → All (InstanceNamed text) is → Stands s → Each Stands (judge_use text b n is s g)
+  use_stands : (b : Option Kind) (n : Name) (is : List Instance) (s : State) (g : Option ℕ) → All (InstanceNamed text) is → Stands s → Each Stands (judge_use text b n is s g)
   unfolding judge_use
-  use_stands b n is s Nothing a st = each_fault
-  use_stands b n is s (Number d) a st =
+  use_stands b n is s None a st = each_fault
+  use_stands b n is s (Some d) a st =
       each_onward ChildrenNamed Stands _ (instances_held b (kind_of (definition_of s.known.table d).component) d is a st.held) (λ held h.
       each_fine (record { held = h; table = st.table }))
 
-  setting_stands : (b : Enclosing) (s : State) (p : Assignment) → Stands s → Each Stands (judge_setting text b s p)
+  setting_stands : (b : Option Kind) (s : State) (p : Assignment) → Stands s → Each Stands (judge_setting text b s p)
   unfolding judge_setting
-  setting_stands Root s p st = each_fault
-  setting_stands (Inside k) s p st = each_next Stands (judge_property text k s.assigned p) _ (λ a. each_fine (record { held = st.held; table = st.table }))
+  setting_stands None s p st = each_fault
+  setting_stands (Some k) s p st = each_next Stands (judge_property text k s.assigned p) _ (λ a. each_fine (record { held = st.held; table = st.table }))
 
   -- the header of an address map has a name
   abbrev MapHeaded : Header → Type 0
   MapHeaded h = h.kind ≡ kind.Addrmap → IsNamed text (name_or h.name)
 
-  map_headed : (map : Given) (h : Header) → is_bad_map map h ≡ false → MaybeNamed text h.name → MapHeaded h
+  map_headed : (map : Option ℕ) (h : Header) → is_bad_map map h ≡ false → MaybeNamed text h.name → MapHeaded h
   unfolding is_bad_map
   map_headed map h bad m e = by h.name refl m
     where
-      by : (n : DefinedName) → h.name ≡ n → MaybeNamed text n → IsNamed text (name_or n)
-      by (Named n) f x = x
-      by Unnamed f x = absurd (let z : true ≡ false = or_right (is_given map) true (rw (e, f) at bad) in let y : ◌≡◌ {A = ℕ} 0 1 = cc in omega arith)
+      by : (n : Option Name) → h.name ≡ n → MaybeNamed text n → IsNamed text (name_or n)
+      by (Some n) f x = x
+      by None f x = absurd (let z : true ≡ false = or_right (is_given map) true (rw (e, f) at bad) in let y : ◌≡◌ {A = ℕ} 0 1 = cc in omega arith)
 
   close_stands : (h : Header) (outer : Settings) (s : State) (p : ℕ) → MapHeaded h → Stands s → Each MadeNamed (closed h outer s p)
   unfolding closed
@@ -116,7 +111,7 @@ module _ (text : List ℕ) where
       let e : kind_of c ≡ h.kind = kind_of_component h.kind settings in
       each_unless MadeNamed (ltb 0 n) n p (λ _. each_fine (all_last d st.table (record { instances = st.held; map = λ q. named (sym e ∙ q) })))
 
-  definition_stands : (b : Enclosing) (outer : Settings) (s : State) (h : Header) (is : List Instance) (body : Settings → State → Judged Made) → MaybeNamed text h.name → All (InstanceNamed text) is → Stands s
+  definition_stands : (b : Option Kind) (outer : Settings) (s : State) (h : Header) (is : List Instance) (body : Settings → State → Judged Made) → MaybeNamed text h.name → All (InstanceNamed text) is → Stands s
       → (MapHeaded h → Each MadeNamed (body (nearest s.assigned.defaults outer) (opening s.known.table s.known.map (s.known.opened + 1))))
       → Each Stands (judge_definition text b outer s h is body)
   unfolding judge_definition declared
@@ -128,13 +123,13 @@ module _ (text : List ℕ) where
       each_onward MadeNamed Stands _ (f named) (λ m g.
       each_onward ChildrenNamed Stands _ (instances_held b h.kind (last_of m.table) is a st.held) (λ held i. each_fine (record { held = i; table = g }))))))
 
-  opening_stands : {table : List Definition} {map : Given} {n : ℕ} → TableNamed table → Stands (opening table map n)
+  opening_stands : {table : List Definition} {map : Option ℕ} {n : ℕ} → TableNamed table → Stands (opening table map n)
   opening_stands t = record { held = all_none; table = t }
 
   mutual
     unfolding judge_elem judge_body
 
-    elem_stands : {e : Elem} → ElemNamed text e → (place : Enclosing) (env : List VisibleType) (outer : Settings) (s : State) → Stands s → Each Stands (judge_elem e text place env outer s)
+    elem_stands : {e : Elem} → ElemNamed text e → (place : Option Kind) (env : List VisibleType) (outer : Settings) (s : State) → Stands s → Each Stands (judge_elem e text place env outer s)
     elem_stands (definition_named {h = h} {b = b} {is = is} x y z) place env outer s st =
         definition_stands place outer s h is (λ defaults state. judge_body b text h (s.known.here ++ env) defaults state) x z st
         (λ named. body_made y h named (s.known.here ++ env) (nearest s.assigned.defaults outer) (opening s.known.table s.known.map (s.known.opened + 1)) (opening_stands st.table))
@@ -143,20 +138,20 @@ module _ (text : List ℕ) where
 
     body_made : {b : Body} → BodyNamed text b → (h : Header) → MapHeaded h → (env : List VisibleType) (outer : Settings) (s : State) → Stands s → Each MadeNamed (judge_body b text h env outer s)
     body_made (close_named {p = p}) h named env outer s st = close_stands h outer s p named st
-    body_made (more_named x y) h named env outer s st = each_onward Stands MadeNamed _ (elem_stands x (Inside h.kind) env outer s st) (λ s' st'. body_made y h named env outer s' st')
+    body_made (more_named x y) h named env outer s st = each_onward Stands MadeNamed _ (elem_stands x (Some h.kind) env outer s st) (λ s' st'. body_made y h named env outer s' st')
 
-  map_means : (k : Known) (g : Given) (p : ℕ) → TableNamed k.table → Each MeaningNamed (meaning_of k g p)
-  map_means k Nothing p t = each_fault
-  map_means k (Number d) p t = each_fine t
+  map_means : (k : Known) (g : Option ℕ) (p : ℕ) → TableNamed k.table → Each MeaningNamed (meaning_of k g p)
+  map_means k None p t = each_fault
+  map_means k (Some d) p t = each_fine t
 
   file_means : {b : Body} → BodyNamed text b → (s : State) → Stands s → Each MeaningNamed (judge_file b text s)
   unfolding judge_file
   file_means (close_named {p = p}) s st = map_means s.known s.known.map p st.table
-  file_means (more_named x y) s st = each_onward Stands MeaningNamed _ (elem_stands x Root [] no_settings s st) (λ s' st'. file_means y s' st')
+  file_means (more_named x y) s st = each_onward Stands MeaningNamed _ (elem_stands x None [] no_settings s st) (λ s' st'. file_means y s' st')
 
   judge_definitions : {b : Body} {m : Meaning} → BodyNamed text b → judge text b ≡ fine m → (d : ℕ) → d < length m.table → DefinitionNamed (definition_of m.table d)
   unfolding judge
-  judge_definitions h e = all_at no_definition (each_of MeaningNamed (file_means h (opening [] Nothing 0) (opening_stands all_none)) e)
+  judge_definitions h e = all_at no_definition (each_of MeaningNamed (file_means h (opening [] None 0) (opening_stands all_none)) e)
 
   -- the instances of each definition
   pub judge_named : {b : Body} {m : Meaning} → BodyNamed text b → judge text b ≡ fine m → (d : ℕ) → d < length m.table → ChildrenNamed (definition_of m.table d).instances

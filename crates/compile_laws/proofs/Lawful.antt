@@ -6,8 +6,7 @@ use Prim.Native.Nat.{ℕ, suc}
 use native.Mathlib.Omega.{arith}
 use lib.ListN.{length}
 use Rattle.parts.specs.declared.Kind.TheVariants as kind
-use Rattle.basics.specs.declared.Fault.TheVariants.{None}
-use Rattle.basics.specs.Judged.{fine}
+use Rattle.basics.specs.Judged.{fine, Accepted}
 use Rattle.components.specs.Components.{kind_of}
 use Rattle.components.specs.declared.Component.{Component}
 use Rattle.components.specs.declared.Component.TheVariants as component
@@ -41,13 +40,13 @@ use Rattle.compile_laws.proofs.Registers.{RegisterSeen, register_holds, entries_
 use Rattle.compile_laws.proofs.Reaching.{Short, Has, has_some, visits_reach, few_registers, few_fields}
 
 map_group : (c : Component) → kind_of c ≡ kind.Addrmap → is_group c ≡ true
-map_group (component.Field f) e = absurd (let z : ◌≡◌ {A = ℕ} 0 1 = cc in omega arith)
-map_group (component.Register r) e = absurd (let z : ◌≡◌ {A = ℕ} 0 1 = cc in omega arith)
+map_group (component.Field f) e = cc
+map_group (component.Register r) e = cc
 map_group (component.Regfile a) e = refl
 map_group (component.Addrmap a m) e = refl
 
 -- a map that keeps the rules
-module _ (text : List ℕ) (m : Meaning) (s : SensibleMeaning m) (n : NamedMeaning text m) (e : map_fault m ≡ None) where
+module _ (text : List ℕ) (m : Meaning) (s : SensibleMeaning m) (n : NamedMeaning text m) (e : map_fault m ≡ Accepted) where
   all_seen : All (Seen (length m.table) (StepFits text) 0) (map_visits m)
   all_seen = map_seen text m.table (map_shapes m) (mode_of (definition_of m.table m.map).component) m.map s.table n.each s.low
 
@@ -90,7 +89,7 @@ module _ (text : List ℕ) (m : Meaning) (s : SensibleMeaning m) (n : NamedMeani
   meaning_within : All WithinParts (map_of text m).entries
   meaning_within = entries_within text m.table (mode_of (definition_of m.table m.map).component) all_registers
 
-module _ (text : List ℕ) (m : Meaning) (r : ruled text ≡ fine m) (e : map_fault m ≡ None) where
+module _ (text : List ℕ) (m : Meaning) (r : ruled text ≡ fine m) (e : map_fault m ≡ Accepted) where
   sensible : SensibleMeaning m
   sensible = judge_sensible text (ruled_stages text m r).tree (ruled_stages text m r).judged
 

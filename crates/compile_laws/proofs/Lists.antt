@@ -18,7 +18,7 @@ all_left [] ys h = all_none
 all_left (x ∷ xs) ys h = all_more (all_first h) (all_left xs ys (all_rest h))
 
 pub not_of : (b : Bool) → b ≡ false → not b ≡ true
-not_of true e = absurd (let z : ◌≡◌ {A = ℕ} 0 1 = cc in omega arith)
+not_of true e = cc
 not_of false e = refl
 
 -- a number of a fault, or none

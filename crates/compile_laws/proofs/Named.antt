@@ -2,14 +2,11 @@
 use mathlib.Core.Path.{◌≡◌, refl}
 use mathlib.Core.List.{List}
 use Prim.Native.Nat.{ℕ}
-use native.Mathlib.Omega.{arith}
 use Rattle.lex.specs.Words.{words_verdict}
-use Rattle.lex.specs.declared.Verdict.{Verdict}
-use Rattle.lex.specs.declared.Verdict.TheVariants.{Accepted, Refused}
 use Rattle.parts.specs.Reading.{Parsed, ok, stop}
 use Rattle.syntax.specs.Tree.{Body}
 use Rattle.syntax.specs.Grammar.{file_at}
-use Rattle.basics.specs.Judged.{fine}
+use Rattle.basics.specs.Judged.{fine, Verdict, Accepted, Refused}
 use Rattle.rules.specs.Judge.{Meaning, judge}
 use Rattle.rules.specs.Rules.{after_words, after_sentences, ruled}
 use Rattle.definition_laws.proofs.Sensible.{judge_sensible}
@@ -31,8 +28,8 @@ ruled_stages text m e = by (words_verdict text) (file_at text) refl refl e
   where
     by : (v : Verdict) (p : Parsed Body) → words_verdict text ≡ v → file_at text ≡ p → after_words v (after_sentences text p) ≡ fine m → Stages text m
     by Accepted (ok b n) f g h = record { tree = b; end = n; words = f; reads = g; judged = h }
-    by Accepted (stop n q) f g h = absurd (let z : ◌≡◌ {A = ℕ} 0 1 = cc in omega arith)
-    by (Refused n q) p f g h = absurd (let z : ◌≡◌ {A = ℕ} 0 1 = cc in omega arith)
+    by Accepted (stop n q) f g h = cc
+    by (Refused n q) p f g h = cc
 
 pub ruled_named : (text : List ℕ) (m : Meaning) → ruled text ≡ fine m → NamedMeaning text m
 ruled_named text m e =

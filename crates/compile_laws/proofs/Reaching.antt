@@ -7,13 +7,11 @@ use native.Mathlib.Omega.{arith}
 use lib.Dec.{ltb}
 use lib.ListN.{length}
 use borrow.Author.Tests.{ltb-false}
-use Rattle.std.specs.Prelude.{if◌then◌else◌}
+use Rattle.std.specs.Prelude.{if◌then◌else◌, Option}
 use Rattle.chars.proofs.Laws.{either, or_left, or_right}
 use Rattle.components.proofs.Laws.{pass_test, pass_on}
 use Rattle.parts.specs.declared.Kind.{Kind}
 use Rattle.property_values.specs.Settings.{is_field}
-use Rattle.basics.specs.declared.Fault.TheVariants.{None}
-use Rattle.basics.specs.declared.Given.{Given}
 use Rattle.components.specs.Components.{kind_of}
 use Rattle.fields.specs.declared.Offset.{Offset}
 use Rattle.components.specs.declared.Component.{Component}
@@ -33,6 +31,7 @@ use Rattle.basics.specs.All.{All}
 use Rattle.map_rules.specs.Visits.{PathStep, Visit, index_in, is_group, address_of, element_visits, child_visits, of_group, visits_in}
 use Rattle.map_rules.specs.Whole.{is_register, is_register_visit, too_many, registers_among, fields_among}
 use Rattle.compile_laws.proofs.Lists.{all_first, all_rest, all_left, none_test}
+use Rattle.basics.specs.Judged.{Accepted}
 
 -- a register among some elements
 pub data Has (table : List Definition) : List Visit → Type 0 where
@@ -74,29 +73,29 @@ elements_reach table content path c base s l k (suc n) h inner a =
 
 -- what stands in a regfile or a map, and is no register, is a group
 group_of : (c : Component) → is_field (kind_of c) ≡ false → is_register c ≡ false → is_group c ≡ true
-group_of (component.Field f) e h = absurd (let z : ◌≡◌ {A = ℕ} 0 1 = cc in omega arith)
-group_of (component.Register r) e h = absurd (let z : ◌≡◌ {A = ℕ} 0 1 = cc in omega arith)
+group_of (component.Field f) e h = cc
+group_of (component.Register r) e h = cc
 group_of (component.Regfile a) e h = refl
 group_of (component.Addrmap a m) e h = refl
 
 group_is : (c : Component) → is_group c ≡ true → GroupOf c (alignment_of c)
-group_is (component.Field f) e = absurd (let z : ◌≡◌ {A = ℕ} 0 1 = cc in omega arith)
-group_is (component.Register r) e = absurd (let z : ◌≡◌ {A = ℕ} 0 1 = cc in omega arith)
+group_is (component.Field f) e = cc
+group_is (component.Register r) e = cc
 group_is (component.Regfile a) e = of_regfile
 group_is (component.Addrmap a m) e = of_map
 
-group_full : (table : List Definition) (cs : List Child) {h : Component} {a : Given} → GroupOf h a → closing_fault table h cs ≡ 0 → is_empty cs ≡ false
+group_full : (table : List Definition) (cs : List Child) {h : Component} {a : Option ℕ} → GroupOf h a → closing_fault table h cs ≡ 0 → is_empty cs ≡ false
 unfolding closing_fault
 group_full table cs of_regfile e = none_test 9 0 (is_empty cs) e
 group_full table cs of_map e = none_test 9 0 (is_empty cs) e
 
-children_reach : (table before : List Definition) (h : Component) (content : ℕ → Offset → List PathStep → List Visit) (shapes : List Shape) (path : List PathStep) (mode : ℕ) (base : Offset) (al : Given) {a : Given} {cs : List Child}
+children_reach : (table before : List Definition) (h : Component) (content : ℕ → Offset → List PathStep → List Visit) (shapes : List Shape) (path : List PathStep) (mode : ℕ) (base : Offset) (al : Option ℕ) {a : Option ℕ} {cs : List Child}
     → GroupOf h a → ((r : ℕ) → r < length before → definition_of before r ≡ definition_of table r) → ChildrenFit before h cs → is_empty cs ≡ false
     → ((d : ℕ) (address : Offset) (here : List PathStep) → d < length before → is_group (definition_of table d).component ≡ true → length here ≡ suc (length path) → length here ≤ nest_limit
     → All Short (content d address here) → Has table (content d address here))
     → All Short (child_visits content shapes path base cs (laid_from mode al shapes bottom cs)) → Has table (child_visits content shapes path base cs (laid_from mode al shapes bottom cs))
 unfolding child_visits laid_from
-children_reach table before h content shapes path mode base al g same children_none e inner a = absurd (let z : ◌≡◌ {A = ℕ} 0 1 = cc in omega arith)
+children_reach table before h content shapes path mode base al g same children_none e inner a = cc
 children_reach table before h content shapes path mode base al g same (children_more {c = c} {cs = cs} x xs) e inner a =
     let k : Kind = kind_of (definition_of before c.type).component in
     let s : Shape = shape_at shapes c.type in
@@ -113,7 +112,7 @@ children_reach table before h content shapes path mode base al g same (children_
 
 group_has : (table : List Definition) (b : Bool) (vs : List Visit) → b ≡ true → (All Short vs → Has table vs) → All Short (of_group b vs) → Has table (of_group b vs)
 group_has table true vs e f a = f a
-group_has table false vs e f a = absurd (let z : ◌≡◌ {A = ℕ} 0 1 = cc in omega arith)
+group_has table false vs e f a = cc
 
 -- a walk that stays above its lowest level ends in a register
 pub visits_reach : (table : List Definition) (shapes : List Shape) (mode levels row : ℕ) (base : Offset) (path : List PathStep) → Sensible table → row < length table
@@ -140,7 +139,7 @@ field_more true fields limit here later h = omega (arith, h)
 field_more false fields limit here later h = h
 
 module _ (table : List Definition) where
-  pub few_registers : (registers fields : ℕ) (vs : List Visit) → registers ≤ register_limit → too_many table registers fields vs ≡ None → registers + length (registers_among table vs) ≤ register_limit
+  pub few_registers : (registers fields : ℕ) (vs : List Visit) → registers ≤ register_limit → too_many table registers fields vs ≡ Accepted → registers + length (registers_among table vs) ≤ register_limit
   unfolding too_many registers_among
   few_registers registers fields [] h f = omega (arith, h)
   few_registers registers fields (v ∷ vs) h f =
@@ -152,7 +151,7 @@ module _ (table : List Definition) where
       let e : r ≤ register_limit = ltb-false register_limit r (or_left (ltb register_limit r) (ltb field_limit k) d) in
       register_more (is_register_visit table v) registers register_limit v (registers_among table vs) (few_registers r k vs e (pass_on 18 p (too_many table r k vs) b f))
 
-  pub few_fields : (registers fields : ℕ) (vs : List Visit) → fields ≤ field_limit → too_many table registers fields vs ≡ None → fields + fields_among table vs ≤ field_limit
+  pub few_fields : (registers fields : ℕ) (vs : List Visit) → fields ≤ field_limit → too_many table registers fields vs ≡ Accepted → fields + fields_among table vs ≤ field_limit
   unfolding too_many fields_among
   few_fields registers fields [] h f = omega (arith, h)
   few_fields registers fields (v ∷ vs) h f =

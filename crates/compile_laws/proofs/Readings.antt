@@ -3,7 +3,6 @@ use mathlib.Core.Bool.{Bool, ◌&&◌}
 use mathlib.Core.Path.{◌≡◌}
 use mathlib.Core.List.{List}
 use Prim.Native.Nat.{ℕ, zero, suc}
-use native.Mathlib.Omega.{arith}
 use lib.ListN.{length}
 use Rattle.chars.proofs.Laws.{either}
 use Rattle.lex.specs.Token.{token_at}
@@ -13,16 +12,11 @@ use Rattle.parts.specs.Words.{is_name, kind_of, is_mark, is_kind, is_end}
 use Rattle.parts.specs.Parts.{name_at, array_at, suffix_at, bare, set_suffix, with_suffix, bare_at, instance_at, parted_at, listed_at, property_at, header_rest_at, header_of, header_at, is_named, starts_instances}
 use Rattle.parts.specs.declared.Name.{Name}
 use Rattle.parts.specs.declared.Kind.{Kind}
-use Rattle.parts.specs.declared.KindLookup.{KindLookup}
-use Rattle.parts.specs.declared.KindLookup.TheVariants.{IsKind, NoKind}
-use Rattle.parts.specs.declared.Suffix.{Suffix}
 use Rattle.parts.specs.declared.SuffixKind.{SuffixKind}
 use Rattle.parts.specs.declared.SuffixKind.TheVariants.{Reset, Address, Stride, Alignment}
 use Rattle.parts.specs.declared.Instance.{Instance}
 use Rattle.parts.specs.declared.ListItem.{ListItem}
 use Rattle.parts.specs.declared.Assignment.{Assignment}
-use Rattle.parts.specs.declared.DefinedName.{DefinedName}
-use Rattle.parts.specs.declared.DefinedName.TheVariants.{Unnamed, Named}
 use Rattle.parts.specs.declared.Header.{Header}
 use Rattle.basics.specs.Limits.{body_limit}
 use Rattle.syntax.specs.Tree.{Elem, definition, instances, property, Body, close, more}
@@ -30,6 +24,8 @@ use Rattle.syntax.specs.Grammar.{instances_from, instances_at, instance_statemen
 use Rattle.basics.specs.All.{All, all_none, all_more}
 use Rattle.compile_laws.specs.Named.{IsNamed}
 use Rattle.compile_laws.proofs.Words.{token_named}
+use Rattle.std.specs.Prelude.{Option, Some, None}
+use Rattle.expressions.specs.declared.Number.{Number}
 
 -- what holds of a reading's piece, if there is one
 data Reading {A : Type 0} (P : A → Type 0) : Parsed A → Type 0 where
@@ -37,7 +33,7 @@ data Reading {A : Type 0} (P : A → Type 0) : Parsed A → Type 0 where
   reading_ok : {a : A} {n : ℕ} → P a → Reading P (ok a n)
 
 reading_of : {A : Type 0} (P : A → Type 0) {p : Parsed A} {a : A} {n : ℕ} → Reading P p → p ≡ ok a n → P a
-reading_of P reading_stop e = absurd (let z : ◌≡◌ {A = ℕ} 0 1 = cc in omega arith)
+reading_of P reading_stop e = cc
 reading_of P {a = a} (reading_ok {a = b} h) e = let z : b ≡ a = cc in rw z at h
 
 reading_then : {A B : Type 0} (P : A → Type 0) (Q : B → Type 0) {p : Parsed A} (k : A → ℕ → Parsed B) → Reading P p → ((a : A) (n : ℕ) → P a → Reading Q (k a n)) → Reading Q (and_then p k)
@@ -60,9 +56,9 @@ abbrev pub InstanceNamed : List ℕ → Instance → Type 0
 InstanceNamed text i = IsNamed text i.name
 
 -- a definition's name, if it has one
-abbrev pub MaybeNamed : List ℕ → DefinedName → Type 0
-MaybeNamed text Unnamed = Unit {0}
-MaybeNamed text (Named n) = IsNamed text n
+abbrev pub MaybeNamed : List ℕ → Option Name → Type 0
+MaybeNamed text None = Unit {0}
+MaybeNamed text (Some n) = IsNamed text n
 
 -- the names of a tree's instances and definitions
 mutual
@@ -81,7 +77,7 @@ module _ (text : List ℕ) where
   name_read_lem at =
       either (λ (p : Parsed Name). Reading (IsNamed text) p) (is_name (token_at text at).word) (λ e. reading_ok (token_named text at e)) (λ _. reading_stop)
 
-  suffix_set : (k : SuffixKind) (s : Suffix) (i : Instance) → InstanceNamed text i → InstanceNamed text (set_suffix k s i)
+  suffix_set : (k : SuffixKind) (s : Option (ℕ × Number)) (i : Instance) → InstanceNamed text i → InstanceNamed text (set_suffix k s i)
   unfolding set_suffix
   suffix_set Reset s i h = h
   suffix_set Address s i h = h
@@ -130,9 +126,9 @@ module _ (text : List ℕ) where
   unfolding header_at
   header_read_lem at = by (kind_of (token_at text at).word)
     where
-      by : (x : KindLookup) → Reading HeaderNamed (header_of x (token_at text at) text)
-      by (IsKind k) = header_rest k (token_at text at).start (token_at text at).end
-      by NoKind = reading_stop
+      by : (x : Option Kind) → Reading HeaderNamed (header_of x (token_at text at) text)
+      by (Some k) = header_rest k (token_at text at).start (token_at text at).end
+      by None = reading_stop
 
   abbrev AllNamed : List Instance → Type 0
   AllNamed is = All (InstanceNamed text) is

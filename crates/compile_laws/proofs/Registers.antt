@@ -63,7 +63,7 @@ fault_within r fs e =
     (none_on 15 _ (overlaps fs) (none_on 14 _ (some (Outside r.width) fs) (none_on 13 _ (ltb r.width r.access) (none_on 12 _ (some Wide fs) e))))
 
 some_instance : (cs : List Child) → is_empty cs ≡ false → 1 ≤ length cs
-some_instance [] e = absurd (let z : ◌≡◌ {A = ℕ} 0 1 = cc in omega arith)
+some_instance [] e = cc
 some_instance (c ∷ cs) e = omega arith
 
 -- the definition of a register
@@ -84,9 +84,9 @@ register_widths (register_fits p q) = (p, q)
 
 register_by : (text : List ℕ) (table : List Definition) (mode row : ℕ) → Sensible table → Names text table → row < length table → (c : Component) → (definition_of table row).component ≡ c
     → is_register c ≡ true → RegisterHolds text table mode row
-register_by text table mode row s names low (component.Field f) k y = absurd (let z : ◌≡◌ {A = ℕ} 0 1 = cc in omega arith)
-register_by text table mode row s names low (component.Regfile a) k y = absurd (let z : ◌≡◌ {A = ℕ} 0 1 = cc in omega arith)
-register_by text table mode row s names low (component.Addrmap a m) k y = absurd (let z : ◌≡◌ {A = ℕ} 0 1 = cc in omega arith)
+register_by text table mode row s names low (component.Field f) k y = cc
+register_by text table mode row s names low (component.Regfile a) k y = cc
+register_by text table mode row s names low (component.Addrmap a m) k y = cc
 register_by text table mode row s names low (component.Register r) k y =
     let f : RowFits mode table row = row_fits mode s row low in
     let cs : List Child = (definition_of table row).instances in

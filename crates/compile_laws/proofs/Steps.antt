@@ -7,7 +7,6 @@ use native.Mathlib.Omega.{arith}
 use lib.ListN.{length}
 use Rattle.parts.specs.declared.Array.{Array}
 use Rattle.parts.specs.declared.Array.TheVariants as array
-use Rattle.basics.specs.declared.Given.{Given}
 use Rattle.components.specs.Components.{kind_of}
 use Rattle.components.specs.declared.Component.{Component}
 use Rattle.components.specs.declared.Component.TheVariants as component
@@ -27,6 +26,7 @@ use Rattle.map_rules.proofs.Elements.{Stepped, Seen, visits_seen}
 use Rattle.map_rules.specs.Visits.{PathStep, index_in, is_group, visits_in}
 use Rattle.row_writer.specs.Entries.{bytes_in, steps_of}
 use Rattle.basics.proofs.All.{all_map}
+use Rattle.std.specs.Prelude.{Option}
 
 -- the names of all instances are sound
 abbrev pub Names : List ℕ → List Definition → Type 0
@@ -39,7 +39,7 @@ pub record BodyChild (text : List ℕ) (table : List Definition) (row : ℕ) (c 
   pub some : 1 ≤ elements c.instance.array
   pub few : elements c.instance.array ≤ array_limit
 
-held_by_lem : (text : List ℕ) (table before : List Definition) (row : ℕ) (h : Component) {a : Given} {cs : List Child} → GroupOf h a → length before ≡ row
+held_by_lem : (text : List ℕ) (table before : List Definition) (row : ℕ) (h : Component) {a : Option ℕ} {cs : List Child} → GroupOf h a → length before ≡ row
     → ChildrenFit before h cs → All (ChildNamed text) cs → All (BodyChild text table row) cs
 held_by_lem text table before row h g l children_none all_none = all_none
 held_by_lem text table before row h g l (children_more {c = c} x xs) (all_more n ns) =
@@ -47,7 +47,7 @@ held_by_lem text table before row h g l (children_more {c = c} x xs) (all_more n
     let e = sound-elements k c.instance (held_addressed g k x.held) x.sound in
     all_more {x = c} (record { before = omega (arith, l, x.before); named = n; some = e.0; few = e.1 }) (held_by_lem text table before row h g l xs ns)
 
-pub held_all : (text : List ℕ) (table : List Definition) (row : ℕ) {a : Given} → Sensible table → Names text table → row < length table
+pub held_all : (text : List ℕ) (table : List Definition) (row : ℕ) {a : Option ℕ} → Sensible table → Names text table → row < length table
     → GroupOf (definition_of table row).component a → All (BodyChild text table row) (definition_of table row).instances
 held_all text table row s names low g =
     let f : RowFits 0 table row = row_fits 0 s row low in
@@ -85,8 +85,8 @@ held_stepped c low h =
 
 group_held : (text : List ℕ) (table : List Definition) (row : ℕ) → Sensible table → Names text table → row < length table → (c : Component) → (definition_of table row).component ≡ c
     → is_group c ≡ true → All (BodyChild text table row) (definition_of table row).instances
-group_held text table row s names low (component.Field f) k y = absurd (let z : ◌≡◌ {A = ℕ} 0 1 = cc in omega arith)
-group_held text table row s names low (component.Register r) k y = absurd (let z : ◌≡◌ {A = ℕ} 0 1 = cc in omega arith)
+group_held text table row s names low (component.Field f) k y = cc
+group_held text table row s names low (component.Register r) k y = cc
 group_held text table row s names low (component.Regfile a) k y = held_all text table row {a = a} s names low (rw k of_regfile)
 group_held text table row s names low (component.Addrmap a m) k y = held_all text table row {a = a} s names low (rw k of_map)
 

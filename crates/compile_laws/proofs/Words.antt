@@ -14,17 +14,11 @@ use Rattle.chars.proofs.Laws.{either, run_take}
 use Rattle.vocabulary.specs.Vocabulary.{keyword_of, mark_of}
 use Rattle.vocabulary.specs.declared.Lookup.{Lookup}
 use Rattle.vocabulary.specs.declared.Lookup.TheVariants as lookup
-use Rattle.vocabulary.specs.declared.MarkLookup.{MarkLookup}
-use Rattle.vocabulary.specs.declared.MarkLookup.TheVariants.{IsMark, NoMark}
 use Rattle.numbers.specs.Number.{number_of}
-use Rattle.numbers.specs.declared.Numeral.{Numeral}
-use Rattle.numbers.specs.declared.Numeral.TheVariants as numeral
 use Rattle.basics.specs.Limits.{name_limit, string_limit}
 use Rattle.lex.specs.Blank.{next_from}
 use Rattle.lex.specs.Quote.{closing}
 use Rattle.lex.specs.Token.{keyword_word, name_word, number_word, name_token, number_token, string_to, string_token, longer, mark_word, mark_token, token_from, token_past, token_at}
-use Rattle.lex.specs.declared.Next.{Next}
-use Rattle.lex.specs.declared.Next.TheVariants.{At, Unclosed}
 use Rattle.lex.specs.declared.Token.{Token}
 use Rattle.lex.specs.declared.Word.{Word}
 use Rattle.lex.specs.declared.Word.TheVariants as word
@@ -32,6 +26,10 @@ use Rattle.lex.proofs.Bounds.{from_lies}
 use Rattle.parts.specs.Words.{is_name}
 use Rattle.identifiers.specs.Names.{bytes_of}
 use Rattle.row_laws.specs.Sound.{SoundName, sound_name}
+use Rattle.std.specs.Prelude.{Option, Some, None, Result, Ok, Err}
+use Rattle.vocabulary.specs.declared.Mark.{Mark}
+use Rattle.numbers.specs.declared.BadNumber.{BadNumber}
+use Rattle.numbers.specs.declared.BadNumber.TheVariants.{Malformed, TooWide}
 
 -- what the bytes of a word are, if it is a name
 abbrev Sounds : Word → List ℕ → Type 0
@@ -78,10 +76,10 @@ name_place_lem p b s e =
     let n : p + length (run is_name_byte (b ∷ s)) - p ≡ length (run is_name_byte (b ∷ s)) = omega arith in
     rw (n, run_take is_name_byte (b ∷ s), r) (name_sounds b (run is_name_byte s) e (run-every is_name_byte s))
 
-number_sounds : (x : Numeral) (w : List ℕ) → Sounds (number_word x) w
-number_sounds (numeral.Fits v) w = tt
-number_sounds numeral.Malformed w = tt
-number_sounds numeral.TooWide w = tt
+number_sounds : (x : Result ℕ BadNumber) (w : List ℕ) → Sounds (number_word x) w
+number_sounds (Ok v) w = tt
+number_sounds (Err Malformed) w = tt
+number_sounds (Err TooWide) w = tt
 
 number_place : (p : ℕ) (s : List ℕ) → At-place p s (number_token p s)
 unfolding number_token
@@ -91,17 +89,17 @@ string_place : (p : ℕ) (s : List ℕ) → At-place p s (string_token p s)
 unfolding string_token
 string_place p s = ended (closing p 34 (p + 1) (drop 1 s))
   where
-    ended : (x : Next) → At-place p s (string_to p (p + length s) x)
-    ended (At q) = either (λ (w : Word). Sounds w (take (q + 1 - p) s)) (ltb string_limit (q - (p + 1))) (λ _. tt) (λ _. tt)
-    ended (Unclosed o) = tt
+    ended : (x : Result ℕ ℕ) → At-place p s (string_to p (p + length s) x)
+    ended (Ok q) = either (λ (w : Word). Sounds w (take (q + 1 - p) s)) (ltb string_limit (q - (p + 1))) (λ _. tt) (λ _. tt)
+    ended (Err o) = tt
 
 mark_place : (p : ℕ) (s : List ℕ) → At-place p s (mark_token p s)
 unfolding mark_token
 mark_place p s = known (longer (mark_of (take 2 s)) (mark_of (take 1 s)))
   where
-    known : (x : MarkLookup) → At-place p s (mark_word p x)
-    known (IsMark m) = tt
-    known NoMark = tt
+    known : (x : Option Mark) → At-place p s (mark_word p x)
+    known (Some m) = tt
+    known None = tt
 
 from_place : (p : ℕ) (s : List ℕ) → At-place p s (token_from p s)
 unfolding token_from
@@ -116,19 +114,19 @@ token_sounds : (t : List ℕ) (at : ℕ) → Sounds (token_at t at).word (bytes_
 unfolding token_at bytes_of
 token_sounds t at = past (next_from t at)
   where
-    past : (x : Next) → Sounds (token_past t x).word (take ((token_past t x).end - (token_past t x).start) (drop (token_past t x).start t))
-    past (At i) = rw (from_lies i (drop i t)).starts (from_place i (drop i t))
-    past (Unclosed o) = tt
+    past : (x : Result ℕ ℕ) → Sounds (token_past t x).word (take ((token_past t x).end - (token_past t x).start) (drop (token_past t x).start t))
+    past (Ok i) = rw (from_lies i (drop i t)).starts (from_place i (drop i t))
+    past (Err o) = tt
 
 word_sounds : (w : Word) (n : List ℕ) → is_name w ≡ true → Sounds w n → SoundName n
 unfolding is_name
-word_sounds word.End n e s = absurd (let z : ◌≡◌ {A = ℕ} 0 1 = cc in omega arith)
+word_sounds word.End n e s = cc
 word_sounds word.Name n e s = s
-word_sounds (word.Keyword k) n e s = absurd (let z : ◌≡◌ {A = ℕ} 0 1 = cc in omega arith)
-word_sounds (word.Number v) n e s = absurd (let z : ◌≡◌ {A = ℕ} 0 1 = cc in omega arith)
-word_sounds word.String n e s = absurd (let z : ◌≡◌ {A = ℕ} 0 1 = cc in omega arith)
-word_sounds (word.Mark m) n e s = absurd (let z : ◌≡◌ {A = ℕ} 0 1 = cc in omega arith)
-word_sounds (word.Bad c) n e s = absurd (let z : ◌≡◌ {A = ℕ} 0 1 = cc in omega arith)
+word_sounds (word.Keyword k) n e s = cc
+word_sounds (word.Number v) n e s = cc
+word_sounds word.String n e s = cc
+word_sounds (word.Mark m) n e s = cc
+word_sounds (word.Bad c) n e s = cc
 
 -- a token that is a name
 pub token_named : (t : List ℕ) (at : ℕ) → is_name (token_at t at).word ≡ true → SoundName (bytes_of t (token_at t at).start (token_at t at).end)

@@ -8,14 +8,13 @@ use Rattle.fields.specs.declared.WriteEffect.TheVariants as onwrite
 use Rattle.basics.specs.Given.{or_else}
 use Rattle.properties.specs.declared.Settings.{Settings}
 use Rattle.fields.specs.declared.FieldType.{FieldType}
-use Rattle.parts.specs.declared.Suffix.{Suffix}
-use Rattle.parts.specs.declared.Suffix.TheVariants as suffix
-use Rattle.components.specs.declared.Start.{Start}
-use Rattle.components.specs.declared.Start.TheVariants as start
 use Rattle.fields.specs.declared.Register.{Register}
 use Rattle.components.specs.declared.Component.{Component}
 use Rattle.components.specs.declared.Component.TheVariants as component
 use Rattle.fields.specs.Fields.{standard_width}
+use Rattle.std.specs.Prelude.{Option, Some, None, ℕ}
+use Rattle.expressions.specs.declared.Number.{Number}
+use Rattle.fields.specs.declared.Offset.{Offset}
 
 -- "both default to `rw`"; a field without an effect keeps what is read and takes what is written
 abbrev pub field_type : Settings → FieldType
@@ -48,6 +47,6 @@ kind_of (component.Regfile a) = kind.Regfile
 kind_of (component.Addrmap a m) = kind.Addrmap
 
 -- "An instance with `@` starts there", at a byte's offset in its body
-abbrev pub start_of : Suffix → Start
-start_of suffix.Missing = start.Free
-start_of (suffix.Given mark n) = start.At (record { 0 = n.value })
+abbrev pub start_of : Option (ℕ × Number) → Option Offset
+start_of None = None
+start_of (Some (mark, n)) = Some (record { 0 = n.value })

@@ -1,15 +1,12 @@
 -- The bits and the reset of a field where it is instantiated.
-use Rattle.std.specs.Prelude.{ℕ, suc, ◌+◌, ◌-◌}
+use Rattle.std.specs.Prelude.{ℕ, suc, ◌+◌, ◌-◌, Option, Some, None}
 use Rattle.parts.specs.declared.Array.{Array}
 use Rattle.parts.specs.declared.Array.TheVariants as array
-use Rattle.parts.specs.declared.Suffix.{Suffix}
-use Rattle.parts.specs.declared.Suffix.TheVariants as suffix
 use Rattle.parts.specs.declared.Instance.{Instance}
-use Rattle.basics.specs.declared.Given.{Given}
-use Rattle.basics.specs.declared.Given.TheVariants.{Number}
 use Rattle.fields.specs.declared.BitPlace.{BitPlace}
 use Rattle.fields.specs.declared.FieldType.{FieldType}
 use Rattle.fields.specs.declared.FieldAt.{FieldAt}
+use Rattle.expressions.specs.declared.Number.{Number}
 
 -- "`[n]` is a width, none is 1"
 abbrev pub width_in : Array → ℕ
@@ -29,9 +26,9 @@ high_bit next (array.Size mark n) = record { 0 = next.0 + (n.value - 1) }
 high_bit next (array.Range mark left right) = record { 0 = left.value }
 
 -- "An instance reset beats the property"
-abbrev pub own_reset : Suffix → Given → Given
-own_reset suffix.Missing type = type
-own_reset (suffix.Given mark n) type = Number n.value
+abbrev pub own_reset : Option (ℕ × Number) → Option ℕ → Option ℕ
+own_reset None type = type
+own_reset (Some (mark, n)) type = Some n.value
 
 -- a field of a register: its bits, its access and effects, and its own reset
 unfoldable pub field_at : BitPlace → Instance → FieldType → FieldAt

@@ -6,56 +6,42 @@ ghost use Rattle.basics.specs.Limits.{width_limit, sum_bound};
 ghost use Rattle.components.specs.Components.{field_type, register_of, component_of, kind_of, start_of};
 ghost use Rattle.components.specs.Fields.{width_in, low_bit, high_bit, own_reset, field_at};
 
-use basics::Given;
 use fields::{
     AccessRight, BitPlace, FieldAt, FieldType, Offset, ReadEffect, Register, WriteEffect,
 };
 use parts::{Array, Instance, Kind, Suffix};
 use properties::Settings;
 
-// Where an instance starts in its body, if its `@` says so.
-#[derive(Clone, Copy)]
-pub enum Start {
-    Free,
-    At(Offset),
-}
-
 // A field, a register, a regfile with its alignment, or an address map with its alignment and addressing.
 #[derive(Clone, Copy)]
 pub enum Component {
     Field(FieldType),
     Register(Register),
-    Regfile(Given),
-    Addrmap(Given, Given),
+    Regfile(Option<u64>),
+    Addrmap(Option<u64>, Option<u64>),
 }
 
 // A register of the effective settings of its body.
 fn register_of(settings: Settings) -> Register
     ensures { result ≡ register_of settings }
 {
-    let fresh = Register::fresh();
-    let regwidth = settings.regwidth;
-    let accesswidth = settings.accesswidth;
-    let width = basics::or_else(fresh.width, regwidth);
-    let access = basics::or_else(width, accesswidth);
+    let width = settings.regwidth.unwrap_or(Register::fresh().width);
+    let access = settings.accesswidth.unwrap_or(width);
     Register { width, access }
 }
 
 fn field_type(settings: Settings) -> FieldType
     ensures { result ≡ field_type settings }
 {
-    let sw = settings.sw;
-    let hw = settings.hw;
-    let onread = settings.onread;
-    let onwrite = settings.onwrite;
-    let reset = settings.reset;
     let open_access = fields::access_code(AccessRight::Rw);
+    let kept = fields::read_code(ReadEffect::Kept);
+    let plain = fields::write_code(WriteEffect::Plain);
     FieldType {
-        sw: basics::or_else(open_access, sw),
-        hw: basics::or_else(open_access, hw),
-        onread: basics::or_else(fields::read_code(ReadEffect::Kept), onread),
-        onwrite: basics::or_else(fields::write_code(WriteEffect::Plain), onwrite),
-        reset,
+        sw: settings.sw.unwrap_or(open_access),
+        hw: settings.hw.unwrap_or(open_access),
+        onread: settings.onread.unwrap_or(kept),
+        onwrite: settings.onwrite.unwrap_or(plain),
+        reset: settings.reset,
     }
 }
 
@@ -64,11 +50,9 @@ fn field_type(settings: Settings) -> FieldType
 pub fn component_of(kind: Kind, settings: Settings) -> Component
     ensures { result ≡ component_of kind settings }
 {
-    let alignment = settings.alignment;
-    let addressing = settings.addressing;
     match kind {
-        Kind::Addrmap => Component::Addrmap(alignment, addressing),
-        Kind::Regfile => Component::Regfile(alignment),
+        Kind::Addrmap => Component::Addrmap(settings.alignment, settings.addressing),
+        Kind::Regfile => Component::Regfile(settings.alignment),
         Kind::Reg => Component::Register(register_of(settings)),
         Kind::Field => Component::Field(field_type(settings)),
     }
@@ -89,8 +73,7 @@ fn low_bit(next: BitPlace, array: Array) -> BitPlace
     ensures { result ≡ low_bit next array }
 {
     match array {
-        Array::Missing => next,
-        Array::Size(_, _) => next,
+        Array::Missing | Array::Size(_, _) => next,
         Array::Range(_, _, right) => BitPlace(right.value),
     }
 }
@@ -106,13 +89,10 @@ fn high_bit(next: BitPlace, array: Array) -> BitPlace
     }
 }
 
-fn own_reset(suffix: Suffix, inherited: Given) -> Given
+fn own_reset(suffix: Suffix, inherited: Option<u64>) -> Option<u64>
     ensures { result ≡ own_reset suffix inherited }
 {
-    match suffix {
-        Suffix::Missing => inherited,
-        Suffix::Given(_, number) => Given::Number(number.value),
-    }
+    suffix.map(|(_, number)| number.value).or(inherited)
 }
 
 // A field of a register, where `next` is the bit above the field before it.
@@ -121,31 +101,17 @@ pub fn field_at(next: BitPlace, instance: Instance, field: FieldType) -> FieldAt
     requires { (1 ≤ width_in instance.array) × (width_in instance.array ≤ width_limit) × (next.0 < sum_bound) }
     ensures { result ≡ field_at next instance field }
 {
-    let array = instance.array;
-    let suffix = instance.reset;
-    let inherited = field.reset;
-    let reset = own_reset(suffix, inherited);
-    let values = FieldType {
-        sw: field.sw,
-        hw: field.hw,
-        onread: field.onread,
-        onwrite: field.onwrite,
-        reset,
-    };
+    let reset = own_reset(instance.reset, field.reset);
     FieldAt {
-        low: low_bit(next, array),
-        high: high_bit(next, array),
-        values,
+        low: low_bit(next, instance.array),
+        high: high_bit(next, instance.array),
+        values: FieldType { reset, ..field },
     }
 }
 
-// Where an instance starts, if its `@` says so.
-pub fn start_of(instance: Instance) -> Start
+// Where an instance starts in its body, if its `@` says so.
+pub fn start_of(instance: Instance) -> Option<Offset>
     ensures { result ≡ start_of instance.address }
 {
-    let address = instance.address;
-    match address {
-        Suffix::Missing => Start::Free,
-        Suffix::Given(_, number) => Start::At(Offset(number.value)),
-    }
+    instance.address.map(|(_, number)| Offset(number.value))
 }

@@ -8,7 +8,7 @@ use native.Mathlib.Decide.{dec_lt, dec_le}
 use lib.Dec.{eqb, leb, ltb}
 use lib.Pow.{pow_pos, pow_mono, shl_exact, high, ones_lt, ones_split}
 use lib.Bits.{bit_and, bit_or}
-use borrow.Author.Tests.{ltb-true, leb-true, leb-false, le-leb, lt-leb, eqb-true, eq-eqb, ne_eqb}
+use borrow.Author.Tests.{ltb-true, leb-true, leb-false, le-leb, lt-leb, eqb-true}
 use Rattle.fields.specs.Codes.{access_code}
 use Rattle.fields.specs.declared.AccessRight.TheVariants as access
 use Rattle.fields.specs.Fields.{is_read_write_pair, is_overlap}
@@ -22,7 +22,7 @@ use Rattle.cover.specs.Covers.{any_below, is_narrow, has_bit, closes, closed_to,
 
 both : (a b : Bool) → (a && b) ≡ true → (a ≡ true) × (b ≡ true)
 both true b e = (refl, e)
-both false b e = absurd (let z : ◌≡◌ {A = ℕ} 0 1 = cc in omega arith)
+both false b e = cc
 
 module _ (f : FieldAt) where
   pub narrow_within : is_narrow f ≡ true → (f.low.0 ≤ f.high.0) × (f.high.0 < 64)
@@ -30,14 +30,6 @@ module _ (f : FieldAt) where
   narrow_within e =
       let y = both (leb f.low.0 f.high.0) (ltb f.high.0 64) e in
       (leb-true f.low.0 f.high.0 y.0, ltb-true f.high.0 64 y.1)
-
-  pub narrow_not : f.high.0 < f.low.0 → false ≡ is_narrow f
-  unfolding is_narrow
-  narrow_not h = rw (lt-leb f.low.0 f.high.0 h)
-
-  pub narrow_below : f.low.0 ≤ f.high.0 → ltb f.high.0 64 ≡ is_narrow f
-  unfolding is_narrow
-  narrow_below h = rw (le-leb f.low.0 f.high.0 h)
 
 -- ---- the bits of a field as a word
 
@@ -188,20 +180,6 @@ module _ (a : ℕ) (f : FieldAt) {w : ℕ} {b : Bool} (g : b ≡ is_read_write_p
       ap₂ (λ (u v : ℕ). bit_or u v) (word_bits fits) e ∙ or_number 64 (bit w) (has_bit f)
       ∙ number_ext 64 (λ i. bit w i || has_bit f i) (λ i. bit w i || closes a f i) (λ i k. rw (← g, y))
 
-module _ (a : ℕ) (c : Cover) {x : ℕ} (d : x ≡ access_code access.R) where
-  pub to_readers : a ≡ x → c.readers ≡ closed_to a c
-  unfolding closed_to
-  to_readers e = rw (eq-eqb a (access_code access.R) (e ∙ d))
-
-  module _ {y : ℕ} (f : y ≡ access_code access.W) (n : a ≡ x → ⊥) where
-    pub to_writers : a ≡ y → c.writers ≡ closed_to a c
-    unfolding closed_to
-    to_writers e = rw (ne_eqb a (access_code access.R) (λ u. n (u ∙ sym d)), eq-eqb a (access_code access.W) (e ∙ f))
-
-    pub to_others : (a ≡ y → ⊥) → c.others ≡ closed_to a c
-    unfolding closed_to
-    to_others e = rw (ne_eqb a (access_code access.R) (λ u. n (u ∙ sym d)), ne_eqb a (access_code access.W) (λ u. e (u ∙ sym f)))
-
 module _ (c : Cover) (f : FieldAt) {x y : ℕ} where
   pub meets_is : x ≡ number 64 (has_bit f) → y ≡ closed_to f.values.sw c → y < 2 ^ 64 → not (eqb (bit_and x y) 0) ≡ meets_in c f
   unfolding meets_in
@@ -210,11 +188,6 @@ module _ (c : Cover) (f : FieldAt) {x y : ℕ} where
       ∙ ap nonzero (ap₂ (λ (u v : ℕ). bit_and u v) d (word_bits h) ∙ and_number 64 (has_bit f) (bit y))
       ∙ any_number 64 (λ i. has_bit f i && bit y i)
       ∙ (rw e)
-
-pub with_is : (c : Cover) (f : FieldAt) {a b n r w o : ℕ} → a ≡ access_code access.R → r ≡ closed_by a f c.readers → b ≡ access_code access.W → w ≡ closed_by b f c.writers
-    → n ≡ access_code access.Na → o ≡ closed_by n f c.others → record { readers = r; writers = w; others = o } ≡ cover_with c f
-unfolding cover_with
-with_is c f d x e y g z = rw (x, y, z, d, e, g)
 
 -- only `r` and `w` are in a lawful pair
 pair_none : (a b : ℕ) → eqb a (access_code access.R) ≡ false → eqb a (access_code access.W) ≡ false → is_read_write_pair a b ≡ is_read_write_pair (access_code access.Na) b

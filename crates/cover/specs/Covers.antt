@@ -21,7 +21,7 @@ is_narrow f = leb f.low.0 f.high.0 && ltb f.high.0 64
 unfoldable pub has_bit : FieldAt → ℕ → Bool
 has_bit f i = leb f.low.0 i && leb i f.high.0
 
--- whether a field closes a bit to later ones of this access: "Overlap is lawful only between one read-only and one write_only_lem"
+-- whether a field closes a bit to later ones of this access: "Overlap is lawful only between one read-only and one write-only"
 unfoldable pub closes : ℕ → FieldAt → ℕ → Bool
 closes a f i = not (is_read_write_pair a f.values.sw) && has_bit f i
 

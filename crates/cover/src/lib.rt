@@ -7,8 +7,6 @@ ghost use Rattle.cover.specs.Covers.{is_narrow, has_bit, closed_to, closed_by, m
 
 use fields::{AccessRight, FieldAt};
 
-const ALL: u64 = 18446744073709551615;
-
 // The bits that are closed to a field that is only read, to one that is only written, and to any other.
 #[derive(Clone, Copy)]
 pub struct Cover {
@@ -29,13 +27,11 @@ pub fn nothing() -> Cover
 }
 
 // Whether a field has its bits below bit 64, so that a word holds them.
+#[tactic(auto, unfolding(crate::specs::Covers::is_narrow))]
 pub fn is_narrow(field: FieldAt) -> bool
     ensures { result ≡ is_narrow field }
 {
-    if field.high.0 < field.low.0 {
-        return false;
-    }
-    field.high.0 < 64
+    field.low.0 <= field.high.0 && field.high.0 < 64
 }
 
 // A field's bits.
@@ -44,36 +40,40 @@ fn bits_of(field: FieldAt) -> u64
     requires { is_narrow field ≡ true }
     ensures { result ≡ number 64 (has_bit field) }
 {
-    let to_high = ALL >> (63 - field.high.0);
+    let to_high = u64::MAX >> (63 - field.high.0);
     let below_low = (1 << field.low.0) - 1;
     to_high - below_low
 }
 
 // A word with the bits that a field closes to later ones of this access.
+#[tactic(auto, using(crate::proofs::Laws::closed_not, crate::proofs::Laws::closed_more))]
 fn closed_by(access: u64, field: FieldAt, word: u64) -> u64
     requires { is_narrow field ≡ true }
     ensures { result ≡ closed_by access field word }
 {
     if fields::is_pair(access, field.values.sw) {
-        return word;
+        word
+    } else {
+        word | bits_of(field)
     }
-    word | bits_of(field)
 }
 
 // The bits that are closed to a field of this access.
+#[tactic(auto, unfolding(crate::specs::Covers::closed_to))]
 fn closed_to(access: u64, cover: Cover) -> u64
     ensures { result ≡ closed_to access cover }
 {
     if access == fields::access_code(AccessRight::R) {
-        return cover.readers;
+        cover.readers
+    } else if access == fields::access_code(AccessRight::W) {
+        cover.writers
+    } else {
+        cover.others
     }
-    if access == fields::access_code(AccessRight::W) {
-        return cover.writers;
-    }
-    cover.others
 }
 
 // Whether some bit of a field is closed to it.
+#[tactic(auto, using(crate::proofs::Laws::meets_is))]
 pub fn meets(cover: Cover, field: FieldAt) -> bool
     requires { is_narrow field ≡ true }
     ensures { result ≡ meets_in cover field }
@@ -82,6 +82,7 @@ pub fn meets(cover: Cover, field: FieldAt) -> bool
 }
 
 // With the bits that one field more closes.
+#[tactic(auto, unfolding(crate::specs::Covers::cover_with))]
 pub fn with_field(cover: Cover, field: FieldAt) -> Cover
     requires { is_narrow field ≡ true }
     ensures { result ≡ cover_with cover field }

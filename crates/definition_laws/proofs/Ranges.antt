@@ -2,10 +2,9 @@
 use mathlib.Core.Path.{◌≡◌, refl}
 use mathlib.Core.Bool.{Bool, true, false}
 use Prim.Native.Nat.{ℕ}
-use native.Mathlib.Omega.{arith}
 use lib.Dec.{eqb, leb}
 use borrow.Author.Tests.{leb-true, eqb-true}
-use Rattle.std.specs.Prelude.{if◌then◌else◌}
+use Rattle.std.specs.Prelude.{if◌then◌else◌, Option, Some, None}
 use Rattle.vocabulary.specs.declared.Keyword.{Keyword}
 use Rattle.vocabulary.specs.declared.Keyword.TheVariants as keyword
 use Rattle.vocabulary.specs.declared.Property.{Property}
@@ -22,11 +21,8 @@ use Rattle.property_values.specs.declared.WordList.TheVariants as list
 use Rattle.property_values.specs.declared.Term.{Term}
 use Rattle.property_values.specs.declared.Term.TheVariants.{Word, Number as Digits, Text, Other}
 use Rattle.property_values.specs.declared.Slot.{Slot}
-use Rattle.property_values.specs.declared.Setting.TheVariants.{Set, Wrong}
 use Rattle.basics.specs.Given.{or_else}
 use Rattle.properties.specs.Assigned.{slot_number, replaced, assign, nearer, nearest, no_settings}
-use Rattle.basics.specs.declared.Given.{Given}
-use Rattle.basics.specs.declared.Given.TheVariants.{Nothing, Number}
 use Rattle.properties.specs.declared.Settings.{Settings}
 use Rattle.components.specs.Components.{component_of}
 use Rattle.definition_laws.specs.Sensible.{AlignmentFits, no_alignment, alignment, AddressingFits, no_addressing, addressing, ValuesFit, field_fits, register_fits, regfile_fits, map-fits}
@@ -44,9 +40,9 @@ in_slot k n =
     if eqb k 8 then leb n 2 else
     true
 
-pub data GivenFits (k : ℕ) : Given → Type 0 where
-  nothing_fits : GivenFits k Nothing
-  number_fits : {n : ℕ} → in_slot k n ≡ true → GivenFits k (Number n)
+pub data GivenFits (k : ℕ) : Option ℕ → Type 0 where
+  nothing_fits : GivenFits k None
+  number_fits : {n : ℕ} → in_slot k n ≡ true → GivenFits k (Some n)
 
 -- the settings that a component is made of are in their ranges
 pub record SettingsFit (s : Settings) : Type 0 where
@@ -72,7 +68,7 @@ no_settings_fit =
       addressing = nothing_fits;
     }
 
-nearer-fits : {k : ℕ} {a b : Given} → GivenFits k a → GivenFits k b → GivenFits k (nearer a b)
+nearer-fits : {k : ℕ} {a b : Option ℕ} → GivenFits k a → GivenFits k b → GivenFits k (nearer a b)
 nearer-fits nothing_fits y = y
 nearer-fits (number_fits x) y = number_fits x
 
@@ -90,7 +86,7 @@ nearest-fits a b =
       addressing = nearer-fits a.addressing b.addressing;
     }
 
-replaced-fits : (k i n : ℕ) {g : Given} → in_slot k n ≡ true → GivenFits i g → GivenFits i (replaced (eqb k i) n g)
+replaced-fits : (k i n : ℕ) {g : Option ℕ} → in_slot k n ≡ true → GivenFits i g → GivenFits i (replaced (eqb k i) n g)
 replaced-fits k i n {g} r f = by (eqb k i) refl
   where
     by : (b : Bool) → eqb k i ≡ b → GivenFits i (replaced b n g)
@@ -162,42 +158,39 @@ term_listed (value.Number n) = refl
 term_listed (value.String p) = refl
 term_listed (value.Word k p) = word_listed k
 
-wrong_absurd : {n : ℕ} → Wrong ≡ Set n → ⊥
-wrong_absurd q = let z : ◌≡◌ {A = ℕ} 0 1 = cc in omega arith
-
-listed_range : (l : WordList) (t : Term) {n : ℕ} → is_listed t ≡ true → listed_setting l t ≡ Set n → leb n (greatest (list_number l)) ≡ true
+listed_range : (l : WordList) (t : Term) {n : ℕ} → is_listed t ≡ true → listed_setting l t ≡ Some n → leb n (greatest (list_number l)) ≡ true
 listed_range l (Word m c) {n} f q = by (eqb (list_number m) (list_number l)) refl q
   where
-    by : (b : Bool) → eqb (list_number m) (list_number l) ≡ b → (if b then Set c else Wrong) ≡ Set n → leb n (greatest (list_number l)) ≡ true
+    by : (b : Bool) → eqb (list_number m) (list_number l) ≡ b → (if b then Some c else None) ≡ Some n → leb n (greatest (list_number l)) ≡ true
     by true e q = let z : c ≡ n = cc in let y : list_number m ≡ list_number l = eqb-true (list_number m) (list_number l) e in rw (z, y) at f
-    by false e q = absurd (wrong_absurd q)
-listed_range l (Digits n) f q = absurd (wrong_absurd q)
-listed_range l Text f q = absurd (wrong_absurd q)
-listed_range l Other f q = absurd (wrong_absurd q)
+    by false e q = absurd cc
+listed_range l (Digits n) f q = absurd cc
+listed_range l Text f q = absurd cc
+listed_range l Other f q = absurd cc
 
 -- the effect of a short form, or none
-short_range : (effect limit : ℕ) (t : Term) {n : ℕ} → leb effect limit ≡ true → leb 0 limit ≡ true → short_setting effect t ≡ Set n → leb n limit ≡ true
+short_range : (effect limit : ℕ) (t : Term) {n : ℕ} → leb effect limit ≡ true → leb 0 limit ≡ true → short_setting effect t ≡ Some n → leb n limit ≡ true
 short_range effect limit (Word m c) {n} f g q = by (eqb (list_number m) (list_number list.Truth)) (eqb c 1) q
   where
-    by : (a b : Bool) → (if a then (if b then Set effect else Set 0) else Wrong) ≡ Set n → leb n limit ≡ true
+    by : (a b : Bool) → (if a then (if b then Some effect else Some 0) else None) ≡ Some n → leb n limit ≡ true
     by true true q = let z : effect ≡ n = cc in rw z at f
     by true false q = let z : 0 ≡ n = cc in rw z at g
-    by false b q = absurd (wrong_absurd q)
-short_range effect limit (Digits n) f g q = absurd (wrong_absurd q)
-short_range effect limit Text f g q = absurd (wrong_absurd q)
-short_range effect limit Other f g q = absurd (wrong_absurd q)
+    by false b q = absurd cc
+short_range effect limit (Digits n) f g q = absurd cc
+short_range effect limit Text f g q = absurd cc
+short_range effect limit Other f g q = absurd cc
 
-number_range : (test : ℕ → Bool) (t : Term) {n : ℕ} → number_setting test t ≡ Set n → test n ≡ true
-number_range test (Word m c) q = absurd (wrong_absurd q)
+number_range : (test : ℕ → Bool) (t : Term) {n : ℕ} → number_setting test t ≡ Some n → test n ≡ true
+number_range test (Word m c) q = absurd cc
 number_range test (Digits d) {n} q = by (test d) refl q
   where
-    by : (b : Bool) → test d ≡ b → (if b then Set d else Wrong) ≡ Set n → test n ≡ true
+    by : (b : Bool) → test d ≡ b → (if b then Some d else None) ≡ Some n → test n ≡ true
     by true e q = let z : d ≡ n = cc in rw z at e
-    by false e q = absurd (wrong_absurd q)
-number_range test Text q = absurd (wrong_absurd q)
-number_range test Other q = absurd (wrong_absurd q)
+    by false e q = absurd cc
+number_range test Text q = absurd cc
+number_range test Other q = absurd cc
 
-pub setting_range : (q : Property) (v : Value) {n : ℕ} → setting_of q v ≡ Set n → in_slot (slot_number (slot_of q)) n ≡ true
+pub setting_range : (q : Property) (v : Value) {n : ℕ} → setting_of q v ≡ Some n → in_slot (slot_number (slot_of q)) n ≡ true
 unfolding setting_of setting_as
 setting_range property.Sw v e = listed_range list.Access (term_of v) (term_listed v) e
 setting_range property.Hw v e = listed_range list.Access (term_of v) (term_listed v) e
@@ -216,15 +209,15 @@ setting_range property.Name v e = refl
 setting_range property.Desc v e = refl
 
 -- a component of such settings
-else_fits : (k standard : ℕ) {g : Given} → in_slot k standard ≡ true → GivenFits k g → in_slot k (or_else standard g) ≡ true
+else_fits : (k standard : ℕ) {g : Option ℕ} → in_slot k standard ≡ true → GivenFits k g → in_slot k (or_else standard g) ≡ true
 else_fits k standard e nothing_fits = e
 else_fits k standard e (number_fits f) = f
 
-alignment_fits : {g : Given} → GivenFits 7 g → AlignmentFits g
+alignment_fits : {g : Option ℕ} → GivenFits 7 g → AlignmentFits g
 alignment_fits nothing_fits = no_alignment
 alignment_fits (number_fits f) = alignment f
 
-addressing_fits : {g : Given} → GivenFits 8 g → AddressingFits g
+addressing_fits : {g : Option ℕ} → GivenFits 8 g → AddressingFits g
 addressing_fits nothing_fits = no_addressing
 addressing_fits (number_fits {n = n} f) = addressing (leb-true n 2 f)
 

@@ -7,34 +7,23 @@ use native.Mathlib.Omega.{arith}
 use lib.Dec.{eqb, leb, ltb}
 use lib.ListN.{length}
 use borrow.Author.Tests.{ltb-false, not-false}
-use Rattle.std.specs.Prelude.{if◌then◌else◌}
+use Rattle.std.specs.Prelude.{if◌then◌else◌, Option, Some, None}
 use Rattle.vocabulary.specs.Vocabulary.{property_of}
-use Rattle.vocabulary.specs.declared.PropertyLookup.{PropertyLookup}
-use Rattle.vocabulary.specs.declared.PropertyLookup.TheVariants.{Known, Unknown}
-use Rattle.expressions.specs.declared.Refusal.{Refusal}
-use Rattle.expressions.specs.declared.Refusal.TheVariants.{Nowhere, AtOperator}
 use Rattle.parts.specs.declared.Name.{Name}
 use Rattle.parts.specs.declared.Kind.{Kind}
 use Rattle.parts.specs.declared.Kind.TheVariants as kind
 use Rattle.parts.specs.declared.Instance.{Instance}
 use Rattle.parts.specs.declared.Header.{Header}
-use Rattle.parts.specs.declared.DefinedName.{DefinedName}
-use Rattle.parts.specs.declared.DefinedName.TheVariants.{Unnamed, Named}
 use Rattle.parts.specs.declared.Assignment.{Assignment}
 use Rattle.property_values.specs.Settings.{is_allowed, slot_of, setting_of, refusal_in}
 use Rattle.property_values.specs.declared.Slot.{Slot}
-use Rattle.property_values.specs.declared.Setting.{Setting}
-use Rattle.property_values.specs.declared.Setting.TheVariants.{Set, Wrong}
 use Rattle.suffixes.specs.Suffixes.{instance_fault}
-use Rattle.basics.specs.declared.Fault.TheVariants.{None}
 use Rattle.syntax.specs.Tree.{Elem, definition, instances, property, Body, close, more}
 use Rattle.identifiers.specs.Names.{bytes_of, same_name, is_among}
-use Rattle.basics.specs.Judged.{Judged, fine}
+use Rattle.basics.specs.Judged.{Judged, fine, Accepted}
 use Rattle.basics.specs.Given.{is_given}
 use Rattle.properties.specs.Assigned.{slot_number, given_in, settings_of, assigned, nearest, no_settings}
 use Rattle.properties.specs.Properties.{judge_value, judge_settled, judge_known, judge_property}
-use Rattle.basics.specs.declared.Given.{Given}
-use Rattle.basics.specs.declared.Given.TheVariants.{Nothing, Number}
 use Rattle.properties.specs.declared.Settings.{Settings}
 use Rattle.properties.specs.declared.Assigned.{Assigned}
 use Rattle.components.specs.Components.{component_of, kind_of}
@@ -43,8 +32,6 @@ use Rattle.cells.specs.Cells.{rank}
 use Rattle.cells.specs.Definitions.{Child, Definition, no_definition, definition_of, names_of, name_or, VisibleType, lookup}
 use Rattle.closing_rules.specs.Registers.{closing_fault}
 use Rattle.scopes.specs.Places.{may_define, may_hold, is_bad_map}
-use Rattle.scopes.specs.declared.Enclosing.{Enclosing}
-use Rattle.scopes.specs.declared.Enclosing.TheVariants.{Root, Inside}
 use Rattle.basics.specs.Limits.{definition_limit}
 use Rattle.rules.specs.Judge.{Known as Facts, State, opening, judge_instances, judge_use, judge_setting, type_twice, name_place, Made, last_of, closed, types_with, declared, judge_definition, judge_elem, judge_body, Meaning, meaning_of, judge_file, judge}
 use Rattle.rules.proofs.Instances.{length_more}
@@ -52,6 +39,7 @@ use Rattle.rules.proofs.Closing.{get_or_before, get_or_last, kind_of_component}
 use Rattle.definition_laws.specs.Sensible.{ChildrenFit, children_none, children_more, Sensible, sensible_none, sensible_more, SensibleMeaning}
 use Rattle.basics.proofs.Each.{Each, each_fault, each_fine, each_unless, each_found, each_of, each_onward}
 use Rattle.definition_laws.proofs.Ranges.{SettingsFit, no_settings_fit, nearest-fits, in_slot, assign-fits, setting_range, component_fits}
+use Rattle.vocabulary.specs.declared.Property.{Property}
 
 -- definitions behind those that there are
 record Extends (table later : List Definition) : Type 0 where
@@ -68,26 +56,26 @@ extends_more : (table : List Definition) (d : Definition) → Extends table (tab
 extends_more table d = record { longer = omega (arith, length_more table d); same = λ r l. get_or_before table d no_definition r l }
 
 -- the instances of a body at a place
-record HeldIn (table : List Definition) (b : Enclosing) (c : Child) : Type 0 where
+record HeldIn (table : List Definition) (b : Option Kind) (c : Child) : Type 0 where
   pub before : c.type < length table
-  pub sound : instance_fault (kind_of (definition_of table c.type).component) c.instance ≡ None
+  pub sound : instance_fault (kind_of (definition_of table c.type).component) c.instance ≡ Accepted
   pub held : may_hold b (kind_of (definition_of table c.type).component) ≡ true
 
-data AllHeld (table : List Definition) (b : Enclosing) : List Child → Type 0 where
+data AllHeld (table : List Definition) (b : Option Kind) : List Child → Type 0 where
   held_none : AllHeld table b []
   held_more : {c : Child} {cs : List Child} → HeldIn table b c → AllHeld table b cs → AllHeld table b (c ∷ cs)
 
-held_last : {table : List Definition} {b : Enclosing} {cs : List Child} (c : Child) → AllHeld table b cs → HeldIn table b c → AllHeld table b (cs ++ (c ∷ []))
+held_last : {table : List Definition} {b : Option Kind} {cs : List Child} (c : Child) → AllHeld table b cs → HeldIn table b c → AllHeld table b (cs ++ (c ∷ []))
 held_last c held_none h = held_more h held_none
 held_last c (held_more x xs) h = held_more x (held_last c xs h)
 
-held_later : {table later : List Definition} {b : Enclosing} {cs : List Child} → Extends table later → AllHeld table b cs → AllHeld later b cs
+held_later : {table later : List Definition} {b : Option Kind} {cs : List Child} → Extends table later → AllHeld table b cs → AllHeld later b cs
 held_later e held_none = held_none
 held_later {table} {later} e (held_more {c = c} x xs) =
     let z : definition_of later c.type ≡ definition_of table c.type = e.same c.type x.before in
     held_more {c = c} (record { before = omega (arith, x.before, e.longer); sound = rw z x.sound; held = rw z x.held }) (held_later e xs)
 
-held_children : {table : List Definition} (k : Kind) (holder : Component) → kind_of holder ≡ k → {cs : List Child} → AllHeld table (Inside k) cs → ChildrenFit table holder cs
+held_children : {table : List Definition} (k : Kind) (holder : Component) → kind_of holder ≡ k → {cs : List Child} → AllHeld table (Some k) cs → ChildrenFit table holder cs
 held_children k holder e held_none = children_none
 held_children k holder e (held_more x xs) = children_more (record { before = x.before; sound = x.sound; held = rw e x.held }) (held_children k holder e xs)
 
@@ -104,39 +92,39 @@ rows_join : {n : ℕ} {here env : List VisibleType} → Rows n here → Rows n e
 rows_join rows_none h = h
 rows_join (rows_more x xs) h = rows_more x (rows_join xs h)
 
-rows_lookup : (text : List ℕ) (name : Name) {n d : ℕ} {es : List VisibleType} → Rows n es → lookup text name es ≡ Number d → d < n
+rows_lookup : (text : List ℕ) (name : Name) {n d : ℕ} {es : List VisibleType} → Rows n es → lookup text name es ≡ Some d → d < n
 unfolding lookup
-rows_lookup text name rows_none q = absurd (let z : ◌≡◌ {A = ℕ} 0 1 = cc in omega arith)
+rows_lookup text name rows_none q = absurd cc
 rows_lookup text name {n} {d} (rows_more {e = e} {es = es} x xs) q = by (same_name text name e.name) (λ z. rows_lookup text name xs z) q
   where
-    by : (b : Bool) → (lookup text name es ≡ Number d → d < n) → (if b then Number e.row else lookup text name es) ≡ Number d → d < n
+    by : (b : Bool) → (lookup text name es ≡ Some d → d < n) → (if b then Some e.row else lookup text name es) ≡ Some d → d < n
     by true f q = let z : e.row ≡ d = cc in rw z at x
     by false f q = f q
 
-rows_with : (name : DefinedName) (d : ℕ) {n : ℕ} {here : List VisibleType} → d < n → Rows n here → Rows n (types_with name d here)
-rows_with Unnamed d l h = h
-rows_with (Named m) d l h = rows_more l h
+rows_with : (name : Option Name) (d : ℕ) {n : ℕ} {here : List VisibleType} → d < n → Rows n here → Rows n (types_with name d here)
+rows_with None d l h = h
+rows_with (Some m) d l h = rows_more l h
 
 -- the address map
-data IsMap (table : List Definition) : Given → Type 0 where
-  no_map : IsMap table Nothing
-  map_at : {d : ℕ} → d < length table → kind_of (definition_of table d).component ≡ kind.Addrmap → IsMap table (Number d)
+data IsMap (table : List Definition) : Option ℕ → Type 0 where
+  no_map : IsMap table None
+  map_at : {d : ℕ} → d < length table → kind_of (definition_of table d).component ≡ kind.Addrmap → IsMap table (Some d)
 
-map_later : {table later : List Definition} {g : Given} → Extends table later → IsMap table g → IsMap later g
+map_later : {table later : List Definition} {g : Option ℕ} → Extends table later → IsMap table g → IsMap later g
 map_later e no_map = no_map
 map_later e (map_at {d = d} l k) = map_at {d = d} (omega (arith, l, e.longer)) (rw (e.same d l) k)
 
 kind_zero : (k : Kind) → eqb (rank k) 0 ≡ true → k ≡ kind.Addrmap
 kind_zero kind.Addrmap e = refl
-kind_zero kind.Regfile e = absurd (let z : ◌≡◌ {A = ℕ} 0 1 = cc in omega arith)
-kind_zero kind.Reg e = absurd (let z : ◌≡◌ {A = ℕ} 0 1 = cc in omega arith)
-kind_zero kind.Field e = absurd (let z : ◌≡◌ {A = ℕ} 0 1 = cc in omega arith)
+kind_zero kind.Regfile e = absurd cc
+kind_zero kind.Reg e = absurd cc
+kind_zero kind.Field e = absurd cc
 
-map_with : (table : List Definition) (k : Kind) (d : ℕ) {g : Given} → d < length table → kind_of (definition_of table d).component ≡ k → IsMap table g
-    → IsMap table (if eqb (rank k) 0 then Number d else g)
+map_with : (table : List Definition) (k : Kind) (d : ℕ) {g : Option ℕ} → d < length table → kind_of (definition_of table d).component ≡ k → IsMap table g
+    → IsMap table (if eqb (rank k) 0 then Some d else g)
 map_with table k d {g} l e h = by (eqb (rank k) 0) refl
   where
-    by : (b : Bool) → eqb (rank k) 0 ≡ b → IsMap table (if b then Number d else g)
+    by : (b : Bool) → eqb (rank k) 0 ≡ b → IsMap table (if b then Some d else g)
     by true z = map_at l (e ∙ kind_zero k z)
     by false z = h
 
@@ -145,7 +133,7 @@ record Settled (a : Assigned) : Type 0 where
   pub own : SettingsFit a.own
   pub defaults : SettingsFit a.defaults
 
-record Stands (b : Enclosing) (s : State) : Type 0 where
+record Stands (b : Option Kind) (s : State) : Type 0 where
   pub assigned : Settled s.assigned
   pub table : Sensible s.known.table
   pub held : AllHeld s.known.table b s.held
@@ -153,7 +141,7 @@ record Stands (b : Enclosing) (s : State) : Type 0 where
   pub map : IsMap s.known.table s.known.map
 
 -- and after an element
-record AfterElement (b : Enclosing) (table : List Definition) (s : State) : Type 0 where
+record AfterElement (b : Option Kind) (table : List Definition) (s : State) : Type 0 where
   pub stands : Stands b s
   pub later : Extends table s.known.table
 
@@ -165,7 +153,7 @@ record AfterBody (k : Kind) (table : List Definition) (m : Made) : Type 0 where
   pub kind_is : kind_of (definition_of m.table (last_of m.table)).component ≡ k
 
 -- a list of instances
-instances_held : (text : List ℕ) (table : List Definition) (b : Enclosing) (k : Kind) (n : ℕ) (is : List Instance) {held : List Child} → n < length table
+instances_held : (text : List ℕ) (table : List Definition) (b : Option Kind) (k : Kind) (n : ℕ) (is : List Instance) {held : List Child} → n < length table
     → kind_of (definition_of table n).component ≡ k → AllHeld table b held → Each (AllHeld table b) (judge_instances text b k n is held)
 unfolding judge_instances
 instances_held text table b k n [] l e h = each_fine h
@@ -178,11 +166,11 @@ instances_held text table b k n (i ∷ is) {held} l e h =
     (held_last (record { instance = i; type = n }) h (record { before = l; sound = rw e z; held = rw e (not-false (may_hold b k) y) })))))
 
 -- statements
-use_moves : (text : List ℕ) (b : Enclosing) (n : Name) (is : List Instance) (s : State) (g : Given) → ((d : ℕ) → g ≡ Number d → d < length s.known.table) → Stands b s
+use_moves : (text : List ℕ) (b : Option Kind) (n : Name) (is : List Instance) (s : State) (g : Option ℕ) → ((d : ℕ) → g ≡ Some d → d < length s.known.table) → Stands b s
     → Each (AfterElement b s.known.table) (judge_use text b n is s g)
 unfolding judge_use
-use_moves text b n is s Nothing l st = each_fault
-use_moves text b n is s (Number d) l st =
+use_moves text b n is s None l st = each_fault
+use_moves text b n is s (Some d) l st =
     each_onward (AllHeld s.known.table b) (AfterElement b s.known.table) _
     (instances_held text s.known.table b (kind_of (definition_of s.known.table d).component) d is (l d refl) refl st.held) (λ held h.
     each_fine
@@ -196,29 +184,29 @@ unfolding assigned
 assigned_settles true a l n r h = record { own = h.own; defaults = assign-fits a.defaults l n r h.defaults }
 assigned_settles false a l n r h = record { own = assign-fits a.own l n r h.own; defaults = h.defaults }
 
-value_settles : (a : Assigned) (p : Assignment) (l : Slot) (x : Setting) → ((n : ℕ) → x ≡ Set n → in_slot (slot_number l) n ≡ true) → Settled a → Each Settled (judge_value a p l x)
+value_settles : (a : Assigned) (p : Assignment) (l : Slot) (x : Option ℕ) → ((n : ℕ) → x ≡ Some n → in_slot (slot_number l) n ≡ true) → Settled a → Each Settled (judge_value a p l x)
 unfolding judge_value
-value_settles a p l Wrong r h = each_fault
-value_settles a p l (Set n) r h = each_fine (assigned_settles p.defaulted a l n (r n refl) h)
+value_settles a p l None r h = each_fault
+value_settles a p l (Some n) r h = each_fine (assigned_settles p.defaulted a l n (r n refl) h)
 
-settled_settles : (a : Assigned) (p : Assignment) (l : Slot) (r : Refusal) (x : Setting) → ((n : ℕ) → x ≡ Set n → in_slot (slot_number l) n ≡ true) → Settled a
+settled_settles : (a : Assigned) (p : Assignment) (l : Slot) (r : Option ℕ) (x : Option ℕ) → ((n : ℕ) → x ≡ Some n → in_slot (slot_number l) n ≡ true) → Settled a
     → Each Settled (judge_settled a p l r x)
-settled_settles a p l Nowhere x f h = value_settles a p l x f h
-settled_settles a p l (AtOperator place) x f h = each_fault
+settled_settles a p l None x f h = value_settles a p l x f h
+settled_settles a p l (Some place) x f h = each_fault
 
-known_settles : (k : Kind) (a : Assigned) (p : Assignment) (x : PropertyLookup) → Settled a → Each Settled (judge_known k a p x)
+known_settles : (k : Kind) (a : Assigned) (p : Assignment) (x : Option Property) → Settled a → Each Settled (judge_known k a p x)
 unfolding judge_known
-known_settles k a p Unknown h = each_fault
-known_settles k a p (Known q) h =
+known_settles k a p None h = each_fault
+known_settles k a p (Some q) h =
     each_unless Settled (not (is_allowed p.defaulted q k)) 7 p.start (λ x.
     each_unless Settled (is_given (given_in (settings_of p.defaulted a) (slot_of q))) 8 p.start (λ y.
     settled_settles a p (slot_of q) (refusal_in q p.value) (setting_of q p.value) (λ n z. setting_range q p.value z) h))
 
-setting_moves : (text : List ℕ) (b : Enclosing) (s : State) (p : Assignment) → Stands b s → Each (AfterElement b s.known.table) (judge_setting text b s p)
+setting_moves : (text : List ℕ) (b : Option Kind) (s : State) (p : Assignment) → Stands b s → Each (AfterElement b s.known.table) (judge_setting text b s p)
 unfolding judge_setting judge_property
-setting_moves text Root s p st = each_fault
-setting_moves text (Inside k) s p st =
-    each_onward Settled (AfterElement (Inside k) s.known.table) _ (known_settles k s.assigned p (property_of (bytes_of text p.start p.end)) st.assigned) (λ a h.
+setting_moves text None s p st = each_fault
+setting_moves text (Some k) s p st =
+    each_onward Settled (AfterElement (Some k) s.known.table) _ (known_settles k s.assigned p (property_of (bytes_of text p.start p.end)) st.assigned) (λ a h.
     each_fine
     (record {
       stands = record { assigned = h; table = st.table; held = st.held; here = st.here; map = st.map };
@@ -226,7 +214,7 @@ setting_moves text (Inside k) s p st =
     }))
 
 -- a closing brace
-close_files : (h : Header) (outer : Settings) (s : State) (p : ℕ) → SettingsFit outer → Stands (Inside h.kind) s → Each (AfterBody h.kind s.known.table) (closed h outer s p)
+close_files : (h : Header) (outer : Settings) (s : State) (p : ℕ) → SettingsFit outer → Stands (Some h.kind) s → Each (AfterBody h.kind s.known.table) (closed h outer s p)
 unfolding closed
 close_files h outer s p o st =
     let k : Kind = h.kind in
@@ -253,7 +241,7 @@ close_files h outer s p o st =
     }))
 
 -- a definition
-definition_moves : (text : List ℕ) (b : Enclosing) (outer : Settings) (s : State) (h : Header) (is : List Instance) (body : Settings → State → Judged Made) → Stands b s
+definition_moves : (text : List ℕ) (b : Option Kind) (outer : Settings) (s : State) (h : Header) (is : List Instance) (body : Settings → State → Judged Made) → Stands b s
     → Each (AfterBody h.kind s.known.table) (body (nearest s.assigned.defaults outer) (opening s.known.table s.known.map (s.known.opened + 1)))
     → Each (AfterElement b s.known.table) (judge_definition text b outer s h is body)
 unfolding judge_definition declared
@@ -280,7 +268,7 @@ definition_moves text b outer s h is body st f =
       later = g.later;
     }))))))
 
-opening_stands : {table : List Definition} {map : Given} {n : ℕ} {b : Enclosing} → Sensible table → IsMap table map → Stands b (opening table map n)
+opening_stands : {table : List Definition} {map : Option ℕ} {n : ℕ} {b : Option Kind} → Sensible table → IsMap table map → Stands b (opening table map n)
 opening_stands t m =
     record { assigned = record { own = no_settings_fit; defaults = no_settings_fit }; table = t; held = held_none; here = rows_none; map = m }
 
@@ -291,7 +279,7 @@ filed_later e (each_fine f) = each_fine (record { sensible = f.sensible; later =
 mutual
   unfolding judge_elem judge_body
 
-  elem_moves : (e : Elem) (text : List ℕ) (place : Enclosing) (env : List VisibleType) (outer : Settings) (s : State) → Rows (length s.known.table) env → SettingsFit outer → Stands place s
+  elem_moves : (e : Elem) (text : List ℕ) (place : Option Kind) (env : List VisibleType) (outer : Settings) (s : State) → Rows (length s.known.table) env → SettingsFit outer → Stands place s
       → Each (AfterElement place s.known.table) (judge_elem e text place env outer s)
   elem_moves (definition h b is) text place env outer s r o st =
       definition_moves text place outer s h is (λ defaults state. judge_body b text h (s.known.here ++ env) defaults state) st
@@ -301,24 +289,24 @@ mutual
       use_moves text place n is s (lookup text n (s.known.here ++ env)) (λ d z. rows_lookup text n (rows_join st.here r) z) st
   elem_moves (property p) text place env outer s r o st = setting_moves text place s p st
 
-  body_files : (b : Body) (text : List ℕ) (h : Header) (env : List VisibleType) (outer : Settings) (s : State) → Rows (length s.known.table) env → SettingsFit outer → Stands (Inside h.kind) s
+  body_files : (b : Body) (text : List ℕ) (h : Header) (env : List VisibleType) (outer : Settings) (s : State) → Rows (length s.known.table) env → SettingsFit outer → Stands (Some h.kind) s
       → Each (AfterBody h.kind s.known.table) (judge_body b text h env outer s)
   body_files (close p) text h env outer s r o st = close_files h outer s p o st
   body_files (more e rest) text h env outer s r o st =
-      each_onward (AfterElement (Inside h.kind) s.known.table) (AfterBody h.kind s.known.table) _ (elem_moves e text (Inside h.kind) env outer s r o st) (λ s' m.
+      each_onward (AfterElement (Some h.kind) s.known.table) (AfterBody h.kind s.known.table) _ (elem_moves e text (Some h.kind) env outer s r o st) (λ s' m.
       filed_later m.later (body_files rest text h env outer s' (rows_later m.later.longer r) o m.stands))
 
 -- a file
-map_sensible : (k : Facts) (g : Given) (p : ℕ) → Sensible k.table → IsMap k.table g → Each SensibleMeaning (meaning_of k g p)
-map_sensible k Nothing p t no_map = each_fault
-map_sensible k (Number d) p t (map_at l e) = each_fine (record { table = t; low = l; map = e })
+map_sensible : (k : Facts) (g : Option ℕ) (p : ℕ) → Sensible k.table → IsMap k.table g → Each SensibleMeaning (meaning_of k g p)
+map_sensible k None p t no_map = each_fault
+map_sensible k (Some d) p t (map_at l e) = each_fine (record { table = t; low = l; map = e })
 
-file_sensible : (b : Body) (text : List ℕ) (s : State) → Stands Root s → Each SensibleMeaning (judge_file b text s)
+file_sensible : (b : Body) (text : List ℕ) (s : State) → Stands None s → Each SensibleMeaning (judge_file b text s)
 unfolding judge_file
 file_sensible (close p) text s st = map_sensible s.known s.known.map p st.table st.map
 file_sensible (more e rest) text s st =
-    each_onward (AfterElement Root s.known.table) SensibleMeaning _ (elem_moves e text Root [] no_settings s rows_none no_settings_fit st) (λ s' m. file_sensible rest text s' m.stands)
+    each_onward (AfterElement None s.known.table) SensibleMeaning _ (elem_moves e text None [] no_settings s rows_none no_settings_fit st) (λ s' m. file_sensible rest text s' m.stands)
 
 pub judge_sensible : (text : List ℕ) (b : Body) {m : Meaning} → judge text b ≡ fine m → SensibleMeaning m
 unfolding judge
-judge_sensible text b e = each_of SensibleMeaning (file_sensible b text (opening [] Nothing 0) (opening_stands sensible_none no_map)) e
+judge_sensible text b e = each_of SensibleMeaning (file_sensible b text (opening [] None 0) (opening_stands sensible_none no_map)) e

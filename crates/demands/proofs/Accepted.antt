@@ -1,19 +1,18 @@
 -- The link to the compiler: the third demand of the map of every accepted text, whose reset store fits.
-use mathlib.Core.Path.{◌≡◌, refl, ap}
+use mathlib.Core.Path.{◌≡◌, refl, ap, subst}
 use mathlib.Core.Bool.{Bool, true, false}
 use mathlib.Core.List.{List}
 use Prim.Native.Nat.{ℕ, ◌*◌}
 use lib.ListN.{length, take, drop}
 use lib.Seq.{take_at}
-use native.Mathlib.Omega.{arith}
 use Rattle.std.specs.Prelude.{if◌then◌else◌}
 use Rattle.basics.specs.Judged.{Judged, fault, fine}
+use Rattle.map_walk.specs.declared.Counts.{Counts}
 use Rattle.basics.specs.Limits.{register_row_width, field_row_width, name_width, path_row_width}
 use Rattle.rows.specs.Rows.{Map, Tables, register_table, path_table, field_table, label_table, tables_of}
 use Rattle.row_laws.specs.Sound.{fields_in}
 use Rattle.row_laws.proofs.Tables.{length-register_table, length-path_table, length-field_table, length-label_table}
-use Rattle.compile.specs.declared.Compiled.TheVariants.{Accepted}
-use Rattle.compile.specs.Compiled.{compiled, is_short, refused, answered, over, over_all, lent_after}
+use Rattle.compile.specs.Compiled.{compiled, is_short, answered, over, over_all, lent_after}
 use Rattle.compile_laws.proofs.Lawful.{accepted_lawful, accepted_read}
 use Rattle.model.specs.Model.{Words}
 use Rattle.access.specs.Stored.{stored_of, stored_fields}
@@ -49,27 +48,26 @@ first_rows_lem m lent =
     )
 
 -- as many register rows and field rows as `compile` answers are the rows of the text's map
-pub compiled_rows : (text : List ℕ) (lent : Tables) (registers fields : ℕ) → answered lent (compiled text) ≡ Accepted registers fields
-    → RowsOf text (first_rows registers fields (lent_after lent (compiled text)))
+pub compiled_rows : (text : List ℕ) (lent : Tables) (counts : Counts) → answered lent (compiled text) ≡ fine counts
+    → RowsOf text (first_rows counts.registers counts.fields (lent_after lent (compiled text)))
 unfolding answered lent_after
-compiled_rows text lent registers fields h = by (compiled text) refl h
+compiled_rows text lent counts h = by (compiled text) refl h
   where
     roomy : (m : Map) (b : Bool) → is_short lent (tables_of m) ≡ b → compiled text ≡ fine m
-        → (if b then refused 22 0 else Accepted (length m.entries) (fields_in m.entries)) ≡ Accepted registers fields
-        → RowsOf text (first_rows registers fields (if b then lent else over_all (tables_of m) lent))
-    roomy m true q e h = absurd (let z : ◌≡◌ {A = ℕ} 0 1 = cc in omega arith)
+        → ◌≡◌ {A = Judged Counts} (if b then fault 22 0 else fine (record { registers = length m.entries; fields = fields_in m.entries })) (fine counts)
+        → RowsOf text (first_rows counts.registers counts.fields (if b then lent else over_all (tables_of m) lent))
+    roomy m true q e h = absurd (cc)
     roomy m false q e h =
-        let r : length m.entries ≡ registers = cc in
-        let f : fields_in m.entries ≡ fields = cc in
-        record { map = m; accepted = e; rows = rw (← r, ← f) (first_rows_lem m lent) }
+        let same : record { registers = length m.entries; fields = fields_in m.entries } ≡ counts = cc in
+        record { map = m; accepted = e; rows = subst (λ (k : Counts). first_rows k.registers k.fields (over_all (tables_of m) lent) ≡ tables_of m) same (first_rows_lem m lent) }
 
-    by : (c : Judged Map) → compiled text ≡ c → answered lent c ≡ Accepted registers fields → RowsOf text (first_rows registers fields (lent_after lent c))
-    by (fault n p) e h = absurd (let z : ◌≡◌ {A = ℕ} 0 1 = cc in omega arith)
+    by : (c : Judged Map) → compiled text ≡ c → answered lent c ≡ fine counts → RowsOf text (first_rows counts.registers counts.fields (lent_after lent c))
+    by (fault n p) e h = absurd (cc)
     by (fine m) e h = roomy m (is_short lent (tables_of m)) refl e h
 
 -- whatever `compile` has accepted and written keeps the third demand
-pub compiled_demand_3 : (text : List ℕ) (lent : Tables) (registers fields : ℕ) → answered lent (compiled text) ≡ Accepted registers fields
-    → Demand3 (first_rows registers fields (lent_after lent (compiled text)))
-compiled_demand_3 text lent registers fields h =
-    let w : RowsOf text (first_rows registers fields (lent_after lent (compiled text))) = compiled_rows text lent registers fields h in
+pub compiled_demand_3 : (text : List ℕ) (lent : Tables) (counts : Counts) → answered lent (compiled text) ≡ fine counts
+    → Demand3 (first_rows counts.registers counts.fields (lent_after lent (compiled text)))
+compiled_demand_3 text lent counts h =
+    let w : RowsOf text (first_rows counts.registers counts.fields (lent_after lent (compiled text))) = compiled_rows text lent counts h in
     rw w.rows (accepted_demand_3 text w.map w.accepted)

@@ -9,7 +9,7 @@ use Rattle.basics.specs.Judged.{fine}
 use Rattle.basics.proofs.All.{all_append, all_both}
 use Rattle.rows.specs.Rows.{Field, Entry, Map, Tables, tables_of}
 use Rattle.row_laws.specs.Sound.{SoundField, SoundEntry}
-use Rattle.compile.specs.declared.Compiled.TheVariants.{Accepted}
+use Rattle.map_walk.specs.declared.Counts.{Counts}
 use Rattle.compile.specs.Compiled.{compiled, answered, lent_after}
 use Rattle.compile_laws.specs.Parts.{FieldWithin, WithinParts}
 use Rattle.compile_laws.proofs.Lawful.{accepted_sound, accepted_within}
@@ -39,8 +39,8 @@ pub accepted_whole : (text : List ℕ) (m : Map) → compiled text ≡ fine m �
 accepted_whole text m e = rw (accepted_stored text m e) (among_whole 0 (all_both (accepted_sound text m e).entries (accepted_within text m e)))
 
 -- and of the rows that `compile` has written
-pub compiled_whole : (text : List ℕ) (lent : Tables) (registers fields : ℕ) → answered lent (compiled text) ≡ Accepted registers fields
-    → All NeverHalved (stored_fields (first_rows registers fields (lent_after lent (compiled text))))
-compiled_whole text lent registers fields h =
-    let w : RowsOf text (first_rows registers fields (lent_after lent (compiled text))) = compiled_rows text lent registers fields h in
+pub compiled_whole : (text : List ℕ) (lent : Tables) (counts : Counts) → answered lent (compiled text) ≡ fine counts
+    → All NeverHalved (stored_fields (first_rows counts.registers counts.fields (lent_after lent (compiled text))))
+compiled_whole text lent counts h =
+    let w : RowsOf text (first_rows counts.registers counts.fields (lent_after lent (compiled text))) = compiled_rows text lent counts h in
     subst (λ (t : Tables). All NeverHalved (stored_fields t)) (sym w.rows) (accepted_whole text w.map w.accepted)

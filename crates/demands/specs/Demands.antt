@@ -2,7 +2,7 @@
 -- a list of calls, `store_after` and `answer_of` for one.
 use Rattle.std.specs.Prelude.{◌≡◌, true, ◌↔◌, List, ◌++◌, ℕ, ◌*◌, take}
 use Rattle.std.specs.Prelude.{if◌then◌else◌}
-use Rattle.basics.specs.Judged.{fine}
+use Rattle.basics.specs.Judged.{fine, gave}
 use Rattle.basics.specs.Limits.{register_row_width, field_row_width, name_width, path_row_width}
 use Rattle.fields.specs.declared.Offset.{Offset}
 use Rattle.actions.specs.Actions.{followed_by}
@@ -13,9 +13,9 @@ use Rattle.model.specs.declared.Access.TheVariants.{Read, Write}
 use Rattle.model.specs.Model.{refusal, bits_of, reaches_bit, view_in, word_in}
 use Rattle.model.specs.Lists.{table, Shown, WholeList}
 use Rattle.model.specs.Repeats.{repeats_bit, repeats}
-use Rattle.access.specs.declared.Retried.TheVariants.{Safe, Unsafe}
 use Rattle.access.specs.Stored.{stored_fields, device_in}
 use Rattle.access.specs.Perform.{refusal_of, answer_of, store_after, retry_of, Fitting, Answered, store_after_all, answers_of}
+use Rattle.access.specs.declared.Resend.TheVariants.{Safe, Unsafe}
 
 -- the first rows of lent tables: so many register rows and so many field rows
 abbrev pub first_rows : ℕ → ℕ → Tables → Tables
@@ -50,7 +50,7 @@ pub record Demand3 (t : Tables) : Type 0 where
   -- the criterion of both, said of each bit of each field row
   pub criterion : (x : Access) → (repeats (stored_fields t) x ≡ true) ↔ ((k i : ℕ) → Shown (stored_fields t) k i → repeats_bit x (view_in (stored_fields t) k) i ≡ true)
   -- and what `retry` answers
-  pub retrying : (x : Access) → Answered t x → retry_of t x ≡ (if repeats (stored_fields t) x then Safe else Unsafe)
+  pub retrying : (x : Access) → Answered t x → retry_of t x ≡ (if repeats (stored_fields t) x then gave Safe else (gave Unsafe))
   -- "Two fitting stores alike in the bits that a read reaches give it the same word."
   pub alike : (a : Offset) (w : ℕ) (s u : List ℕ) → Fitting t s → Fitting t u
       → ((k i : ℕ) → Shown (stored_fields t) k i → reaches_bit a w (view_in (stored_fields t) k) i ≡ true

@@ -18,18 +18,18 @@ use Rattle.expressions.specs.Grammar.{joined_from, row_at, closed_at, operand_wi
 use Rattle.expressions.specs.Grouping.{row_on, Grouped, grouped_inside, grouped_apply, Nested, nested_literal, nested_inside, nested_apply, WordsSpell, spelt_literal, spelt_inside, spelt_apply, Expression}
 use Rattle.expressions.specs.declared.ExpressionWord.{ExpressionWord}
 use Rattle.expressions.specs.declared.ExpressionWord.TheVariants as part
-use Rattle.expressions.specs.declared.OperatorLookup.TheVariants.{Missing}
 use Rattle.expressions.proofs.Readings.{then_ok}
 use Rattle.expressions.proofs.Trees.{Looser, part_past, row_bounds}
 use Rattle.expressions.proofs.Faults.{spelt_lies}
+use Rattle.std.specs.Prelude.{None}
 
 module _ (t : List ℕ) where
   -- an operator that stands at the cursor binds looser than the row, so none of the row or of a tighter one is found
-  looser_missing : (row k n : ℕ) → Looser t row n → k ≤ row → operator_in k (part_of (token_at t n).word) ≡ Missing
+  looser_missing : (row k n : ℕ) → Looser t row n → k ≤ row → operator_in k (part_of (token_at t n).word) ≡ None
   unfolding operator_in in_row
   looser_missing row k n h l = by (part_of (token_at t n).word) refl
     where
-      by : (q : ExpressionWord) → part_of (token_at t n).word ≡ q → operator_in k q ≡ Missing
+      by : (q : ExpressionWord) → part_of (token_at t n).word ≡ q → operator_in k q ≡ None
       by (part.Literal v) e = refl
       by part.Open e = refl
       by part.Close e = refl
@@ -46,7 +46,7 @@ module _ (t : List ℕ) where
       rw z at h
 
   module _ (depth : ℕ) where
-    row_more : (row at n : ℕ) (e : Expr) → row_at (operand_at depth t) row t at ≡ ok e n → operator_in (suc row) (part_of (token_at t n).word) ≡ Missing
+    row_more : (row at n : ℕ) (e : Expr) → row_at (operand_at depth t) row t at ≡ ok e n → operator_in (suc row) (part_of (token_at t n).word) ≡ None
         → row_at (operand_at depth t) (suc row) t at ≡ ok e n
     unfolding row_at joined_from
     row_more row at n e q h = then_ok _ q ∙ rw h
@@ -93,7 +93,7 @@ module _ (t : List ℕ) where
     unfolding joined_from operator_in in_row
     joined_turn row turns m n o l r e k q = rw (e, eq-eqb (row_of o) (suc row) k) (then_ok _ q)
 
-    joined_ends : (row turns n : ℕ) (e : Expr) → operator_in (suc row) (part_of (token_at t n).word) ≡ Missing
+    joined_ends : (row turns n : ℕ) (e : Expr) → operator_in (suc row) (part_of (token_at t n).word) ≡ None
         → joined_from (row_at (operand_at depth t) row t) (suc row) (suc turns) t e n ≡ ok e n
     unfolding joined_from
     joined_ends row turns n e h = rw h

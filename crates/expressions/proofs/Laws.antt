@@ -6,42 +6,35 @@ use Prim.Native.Nat.{ℕ, zero, suc, ◌-◌, ◌<◌, ◌≤◌}
 use native.Mathlib.Omega.{arith}
 use lib.ListN.{length}
 use borrow.Author.Tests.{eq-eqb, ne_eqb}
-use Rattle.std.specs.Prelude.{if◌then◌else◌}
+use Rattle.std.specs.Prelude.{if◌then◌else◌, Option, Some, None}
 use Rattle.lex.specs.Token.{token_at}
 use Rattle.lex.specs.declared.Token.{Token}
 use Rattle.operators.specs.declared.Operator.{Operator}
-use Rattle.operators.specs.declared.Computed.{Computed}
 use Rattle.operators.specs.Operators.{row_of, row_count, result_of}
 use Rattle.expressions.specs.Reading.{Parsed, ok, stop, and_then, mapped}
 use Rattle.expressions.specs.Words.{part_of, is_close, in_row, operator_in}
 use Rattle.expressions.specs.Tree.{Expr, inside, apply}
 use Rattle.expressions.specs.Value.{sound, earlier, given, settled, joined, placed, evaluated}
 use Rattle.expressions.specs.Grammar.{joined_from, row_at, closed_at, operand_with, operand_at}
-use Rattle.expressions.specs.Answers.{number_read}
 use Rattle.expressions.specs.declared.ExpressionWord.{ExpressionWord}
 use Rattle.expressions.specs.declared.ExpressionWord.TheVariants as part
-use Rattle.expressions.specs.declared.OperatorLookup.{OperatorLookup}
-use Rattle.expressions.specs.declared.OperatorLookup.TheVariants.{Found, Missing}
-use Rattle.expressions.specs.declared.Refusal.{Refusal}
 use Rattle.expressions.specs.declared.Number.{Number}
-use Rattle.expressions.specs.declared.NumberReading.{NumberReading}
-use Rattle.expressions.specs.declared.NumberReading.TheVariants as reading
 use Rattle.expressions.proofs.Readings.{then_ok, then_stop, mapped_done, mapped_stopped, holds_of}
 use Rattle.expressions.proofs.Rest.{Rest, rest_on}
 use Rattle.expressions.proofs.Trees.{operator_found, part_past, row_read}
 
 -- an operator of a row
 module _ (o : Operator) (row : ℕ) {n : ℕ} (e : n ≡ row_of o) where
-  pub row_same : n ≡ row → Found o ≡ in_row row o
+  pub row_same : n ≡ row → Some o ≡ in_row row o
   unfolding in_row
   row_same f = rw (eq-eqb (row_of o) row (sym e ∙ f))
 
-  pub row_other : (n ≡ row → ⊥) → Missing ≡ in_row row o
+  pub row_other : (n ≡ row → ⊥) → None ≡ in_row row o
   unfolding in_row
   row_other f = rw (ne_eqb (row_of o) row (λ z. f (e ∙ z)))
 
 -- an operator between two numbers
-pub join_numbers : (o : Operator) (p : ℕ) (l r : Number) {x : Computed} {u : Refusal} {g s : Number} → x ≡ result_of o l.value r.value
+pub join_numbers : (o : Operator) (p : ℕ) (l r : Number) {x : Option ℕ} {u : Option ℕ} {g s : Number} → x ≡ result_of o l.value r.value
     → u ≡ earlier l.refusal r.refusal → g ≡ given p l.place x → s ≡ settled u l.place g → s ≡ joined o p l r
 unfolding joined
 join_numbers o p l r e f g h = rw (← e, ← f, ← g) h
@@ -100,12 +93,12 @@ module _ (t : List ℕ) (at : ℕ) {k : Token} {q : ExpressionWord} (e : k ≡ t
         let one : depth ≡ suc (depth - 1) = omega arith in
         ap (λ (n : ℕ). operand_at n t at) one ∙ deeper h (depth - 1)
 
-    module _ {x : NumberReading} (z : depth ≡ 0 → ⊥) (read : number_read x ≡ mapped evaluated (row_at (operand_at (depth - 1) t) row_count t k.end)) where
-      pub operand_stop : {n p : ℕ} → x ≡ reading.Refused n p → stop n p ≡ mapped evaluated (operand_at depth t at)
+    module _ {x : Parsed Number} (z : depth ≡ 0 → ⊥) (read : x ≡ mapped evaluated (row_at (operand_at (depth - 1) t) row_count t k.end)) where
+      pub operand_stop : {n p : ℕ} → x ≡ stop n p → stop n p ≡ mapped evaluated (operand_at depth t at)
       unfolding mapped
       operand_stop g = rw (opened z ∙ then_stop _ (mapped_stopped evaluated _ (rw g at read)))
 
-      pub operand_close : {v : Number} {n : ℕ} {y : Parsed Number} → x ≡ reading.Done v n → y ≡ closed_at (placed k.start v) t n → y ≡ mapped evaluated (operand_at depth t at)
+      pub operand_close : {v : Number} {n : ℕ} {y : Parsed Number} → x ≡ ok v n → y ≡ closed_at (placed k.start v) t n → y ≡ mapped evaluated (operand_at depth t at)
       unfolding evaluated
       operand_close {n = n} g j =
           let d = mapped_done evaluated (row_at (operand_at (depth - 1) t) row_count t k.end) (rw g at read) in
@@ -136,40 +129,40 @@ module _ (t : List ℕ) (depth row : ℕ) where
         let one : suc (row - 1) ≡ row = omega arith in
         rw one at (looser_suc at (row - 1))
 
-    module _ (at : ℕ) {x : NumberReading} (read : number_read x ≡ mapped evaluated (row_at (operand_at depth t) (row - 1) t at)) where
-      pub row_stop : {n p : ℕ} → x ≡ reading.Refused n p → stop n p ≡ mapped evaluated (row_at (operand_at depth t) row t at)
+    module _ (at : ℕ) {x : Parsed Number} (read : x ≡ mapped evaluated (row_at (operand_at depth t) (row - 1) t at)) where
+      pub row_stop : {n p : ℕ} → x ≡ stop n p → stop n p ≡ mapped evaluated (row_at (operand_at depth t) row t at)
       unfolding mapped
       row_stop g = rw (looser at ∙ then_stop _ (mapped_stopped evaluated _ (rw g at read)))
 
-      pub row_begin : {v : Number} {n : ℕ} → x ≡ reading.Done v n
+      pub row_begin : {v : Number} {n : ℕ} → x ≡ ok v n
           → Joining (row_at (operand_at depth t) (row - 1) t) row t n v (mapped evaluated (row_at (operand_at depth t) row t at))
       row_begin {n = n} g =
           let d = mapped_done evaluated (row_at (operand_at depth t) (row - 1) t at) (rw g at read) in
           record { tree = d.0; value = d.1.1; rest = record { turns = length t; enough = omega arith; same = sym (ap (mapped evaluated) (looser at ∙ then_ok _ d.1.0)) } }
 
-    module _ (at : ℕ) {left : Number} {whole : Parsed Number} {k : Token} {q : ExpressionWord} {l : OperatorLookup}
+    module _ (at : ℕ) {left : Number} {whole : Parsed Number} {k : Token} {q : ExpressionWord} {l : Option Operator}
         (r : Joining (row_at (operand_at depth t) (row - 1) t) row t at left whole) (e : k ≡ token_at t at) (f : q ≡ part_of k.word) (g : l ≡ operator_in row q) where
-      pub join_done : l ≡ Missing → ok left at ≡ whole
+      pub join_done : l ≡ None → ok left at ≡ whole
       unfolding joined_from mapped
       join_done h =
           let s : mapped evaluated (joined_from (row_at (operand_at depth t) (row - 1) t) row (suc r.rest.turns) t r.tree at) ≡ ok (evaluated r.tree) at =
           rw (← e, ← f, sym g ∙ h) in
           ap (λ (v : Number). ok v at) (sym r.value) ∙ sym s ∙ r.rest.same
 
-      turn : {o : Operator} → l ≡ Found o → (n : ℕ) → joined_from (row_at (operand_at depth t) (row - 1) t) row (suc n) t r.tree at
+      turn : {o : Operator} → l ≡ Some o → (n : ℕ) → joined_from (row_at (operand_at depth t) (row - 1) t) row (suc n) t r.tree at
           ≡ and_then (row_at (operand_at depth t) (row - 1) t k.end) (λ right next. joined_from (row_at (operand_at depth t) (row - 1) t) row n t (apply o k.start r.tree right) next)
       unfolding joined_from
       turn h n = rw (← e, ← f, sym g ∙ h)
 
-      module _ {o : Operator} {x : NumberReading} (h : l ≡ Found o) (read : number_read x ≡ mapped evaluated (row_at (operand_at depth t) (row - 1) t k.end)) where
-        pub join_stop : {n p : ℕ} → x ≡ reading.Refused n p → stop n p ≡ whole
+      module _ {o : Operator} {x : Parsed Number} (h : l ≡ Some o) (read : x ≡ mapped evaluated (row_at (operand_at depth t) (row - 1) t k.end)) where
+        pub join_stop : {n p : ℕ} → x ≡ stop n p → stop n p ≡ whole
         unfolding mapped
         join_stop {n} {p} i =
             let s : mapped evaluated (joined_from (row_at (operand_at depth t) (row - 1) t) row (suc r.rest.turns) t r.tree at) ≡ stop n p =
             ap (mapped evaluated) (turn h r.rest.turns ∙ then_stop _ (mapped_stopped evaluated _ (rw i at read))) in
             sym s ∙ r.rest.same
 
-        module _ {v : Number} {n : ℕ} (i : x ≡ reading.Done v n) where
+        module _ {v : Number} {n : ℕ} (i : x ≡ ok v n) where
           pub join_past : (at < n) × (n ≤ length t)
           join_past =
               let d = mapped_done evaluated (row_at (operand_at depth t) (row - 1) t k.end) (rw i at read) in

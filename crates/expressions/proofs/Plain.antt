@@ -16,11 +16,11 @@ use Rattle.expressions.specs.Value.{sound, evaluated}
 use Rattle.expressions.specs.Grammar.{joined_from, row_at, operand_with, operand_at, expression_at, number_at, plain_of, plain_at}
 use Rattle.expressions.specs.declared.ExpressionWord.{ExpressionWord}
 use Rattle.expressions.specs.declared.ExpressionWord.TheVariants as part
-use Rattle.expressions.specs.declared.OperatorLookup.TheVariants.{Missing}
 use Rattle.expressions.specs.declared.Number.{Number}
 use Rattle.expressions.proofs.Readings.{then_ok, then_stop}
+use Rattle.std.specs.Prelude.{None}
 
-pub no_operator : (q : ExpressionWord) (row : ℕ) → is_operator q ≡ false → operator_in row q ≡ Missing
+pub no_operator : (q : ExpressionWord) (row : ℕ) → is_operator q ≡ false → operator_in row q ≡ None
 unfolding operator_in
 no_operator (part.Literal n) row e = refl
 no_operator part.Open row e = refl

@@ -7,7 +7,7 @@ use native.Mathlib.Omega.{arith}
 use lib.Dec.{eqb}
 use lib.ListN.{length}
 use borrow.Author.Tests.{eqb-true, eq-eqb}
-use Rattle.std.specs.Prelude.{if◌then◌else◌}
+use Rattle.std.specs.Prelude.{if◌then◌else◌, Option, Some, None}
 use Rattle.chars.proofs.Laws.{either}
 use Rattle.lex.specs.Token.{token_at}
 use Rattle.lex.specs.declared.Word.TheVariants as word
@@ -23,30 +23,28 @@ use Rattle.expressions.specs.Grammar.{by_lookup, joined_from, row_at, closed_at,
 use Rattle.expressions.specs.Grouping.{row_on, Grouped, grouped_literal, grouped_inside, grouped_apply, Nested, nested_literal, nested_inside, nested_apply, WordsSpell, spelt_literal, spelt_inside, spelt_apply, Expression}
 use Rattle.expressions.specs.declared.ExpressionWord.{ExpressionWord}
 use Rattle.expressions.specs.declared.ExpressionWord.TheVariants as part
-use Rattle.expressions.specs.declared.OperatorLookup.{OperatorLookup}
-use Rattle.expressions.specs.declared.OperatorLookup.TheVariants.{Found, Missing}
 use Rattle.expressions.proofs.Readings.{HoldsRead, holds_ok, holds_stop, holds_of, holds_more, holds_then}
 
 -- an operator that is found has that row
-pub operator_found : (row : ℕ) (q : ExpressionWord) {o : Operator} → operator_in row q ≡ Found o → (q ≡ part.Binary o) × (row_of o ≡ row)
+pub operator_found : (row : ℕ) (q : ExpressionWord) {o : Operator} → operator_in row q ≡ Some o → (q ≡ part.Binary o) × (row_of o ≡ row)
 unfolding operator_in in_row
 operator_found row (part.Literal n) e = absurd (let z : ◌≡◌ {A = ℕ} 0 1 = cc in omega arith)
 operator_found row part.Open e = absurd (let z : ◌≡◌ {A = ℕ} 0 1 = cc in omega arith)
 operator_found row part.Close e = absurd (let z : ◌≡◌ {A = ℕ} 0 1 = cc in omega arith)
 operator_found row (part.Binary a) {o} e = by (eqb (row_of a) row) refl e
   where
-    by : (b : Bool) → eqb (row_of a) row ≡ b → (if b then Found a else Missing) ≡ Found o → (part.Binary a ≡ part.Binary o) × (row_of o ≡ row)
+    by : (b : Bool) → eqb (row_of a) row ≡ b → (if b then Some a else None) ≡ Some o → (part.Binary a ≡ part.Binary o) × (row_of o ≡ row)
     by true f g =
         let s : a ≡ o = cc in
         (ap part.Binary s, ap row_of (sym s) ∙ eqb-true (row_of a) row f)
     by false f g = absurd (let z : ◌≡◌ {A = ℕ} 0 1 = cc in omega arith)
 operator_found row part.Other e = absurd (let z : ◌≡◌ {A = ℕ} 0 1 = cc in omega arith)
 
-in_row_missing : (row : ℕ) (o : Operator) → in_row row o ≡ Missing → row_of o ≡ row → ⊥
+in_row_missing : (row : ℕ) (o : Operator) → in_row row o ≡ None → row_of o ≡ row → ⊥
 unfolding in_row
 in_row_missing row o e f = by (rw (eq-eqb (row_of o) row f) at e)
   where
-    by : Found o ≡ Missing → ⊥
+    by : Some o ≡ None → ⊥
     by g = let z : ◌≡◌ {A = ℕ} 0 1 = cc in omega arith
 
 -- the rows go from 1 to 8
@@ -108,7 +106,7 @@ module _ (t : List ℕ) where
     pub looser : Looser row n
 
   -- no operator of the row stands behind a tree of the tighter rows
-  looser_row : (row n : ℕ) → Looser row n → operator_in (suc row) (part_of (token_at t n).word) ≡ Missing → Looser (suc row) n
+  looser_row : (row n : ℕ) → Looser row n → operator_in (suc row) (part_of (token_at t n).word) ≡ None → Looser (suc row) n
   unfolding operator_in
   looser_row row n h e o f =
       let d : row_of o ≡ suc row → ⊥ = in_row_missing (suc row) o (rw f at e) in
@@ -124,10 +122,10 @@ module _ (t : List ℕ) where
         by (λ tree n q h. joined_read d row reads turns tree from n q h) (operator_in (suc row) (part_of (token_at t at).word)) refl
       where
         by : ((tree : Expr) (n : ℕ) → Read depth (suc row) from tree n → Looser row n → HoldsRead (Whole depth (suc row) from) (joined_from d (suc row) turns t tree n))
-            → (x : OperatorLookup) → operator_in (suc row) (part_of (token_at t at).word) ≡ x
+            → (x : Option Operator) → operator_in (suc row) (part_of (token_at t at).word) ≡ x
             → HoldsRead (Whole depth (suc row) from) (by_lookup x (ok left at) (λ o. and_then (d (token_at t at).end) (λ right next. joined_from d (suc row) turns t (apply o (token_at t at).start left right) next)))
-        by more Missing e = holds_ok (record { read = r; looser = looser_row row at h e })
-        by more (Found o) e =
+        by more None e = holds_ok (record { read = r; looser = looser_row row at h e })
+        by more (Some o) e =
             let f = operator_found (suc row) (part_of (token_at t at).word) e in
             let p = part_past at f.0 (λ z. let y : ◌≡◌ {A = ℕ} 0 1 = cc in omega arith) in
             holds_then (reads (token_at t at).end) (λ right n w.

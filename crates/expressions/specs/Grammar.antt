@@ -1,6 +1,6 @@
 -- The grammar of constant expressions (document 02, item 1), as readers of the text at a cursor. The loop over one row's operators
 -- takes a number of turns; one more than the text has bytes is enough, since each turn moves the cursor on.
-use Rattle.std.specs.Prelude.{List, ℕ, zero, suc, length}
+use Rattle.std.specs.Prelude.{List, ℕ, zero, suc, length, Option, Some, None}
 use Rattle.std.specs.Prelude.{if◌then◌else◌}
 use Rattle.lex.specs.Token.{token_at}
 use Rattle.lex.specs.declared.Token.{Token}
@@ -13,13 +13,11 @@ use Rattle.expressions.specs.Tree.{Expr, literal, inside, apply}
 use Rattle.expressions.specs.Value.{sound, evaluated}
 use Rattle.expressions.specs.declared.ExpressionWord.{ExpressionWord}
 use Rattle.expressions.specs.declared.ExpressionWord.TheVariants as part
-use Rattle.expressions.specs.declared.OperatorLookup.{OperatorLookup}
-use Rattle.expressions.specs.declared.OperatorLookup.TheVariants.{Found, Missing}
 use Rattle.expressions.specs.declared.Number.{Number}
 
-abbrev pub by_lookup : {A : Type 0} → OperatorLookup → A → (Operator → A) → A
-by_lookup (Found o) none some = some o
-by_lookup Missing none some = none
+abbrev pub by_lookup : {A : Type 0} → Option Operator → A → (Operator → A) → A
+by_lookup (Some o) none some = some o
+by_lookup None none some = none
 
 -- "left grouping": behind `left`, each operator of the row takes the next operand of the tighter rows
 unfoldable pub joined_from : (ℕ → Parsed Expr) → ℕ → ℕ → List ℕ → Expr → ℕ → Parsed Expr

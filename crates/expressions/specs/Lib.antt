@@ -3,6 +3,5 @@ pub mod Words
 pub mod Tree
 pub mod Value
 pub mod Grammar
-pub mod Answers
 pub mod Grouping
 pub mod Faults

@@ -1,5 +1,5 @@
 -- What a word may be in an expression (document 02, item 1).
-use Rattle.std.specs.Prelude.{Bool, true, false, ℕ, eqb}
+use Rattle.std.specs.Prelude.{Bool, true, false, ℕ, eqb, Option, Some, None}
 use Rattle.std.specs.Prelude.{if◌then◌else◌}
 use Rattle.vocabulary.specs.declared.Mark.{Mark}
 use Rattle.vocabulary.specs.declared.Mark.TheVariants as mark
@@ -10,8 +10,6 @@ use Rattle.operators.specs.declared.Operator.TheVariants as operator
 use Rattle.operators.specs.Operators.{row_of}
 use Rattle.expressions.specs.declared.ExpressionWord.{ExpressionWord}
 use Rattle.expressions.specs.declared.ExpressionWord.TheVariants as part
-use Rattle.expressions.specs.declared.OperatorLookup.{OperatorLookup}
-use Rattle.expressions.specs.declared.OperatorLookup.TheVariants.{Found, Missing}
 
 -- the marks of expressions: "parentheses, `* / % + - << >> & ^ |` and the comparisons"
 abbrev pub mark_part : Mark → ExpressionWord
@@ -64,15 +62,15 @@ is_close (part.Binary o) = false
 is_close part.Other = false
 
 -- an operator of that row
-unfoldable pub in_row : ℕ → Operator → OperatorLookup
-in_row row o = if eqb (row_of o) row then Found o else Missing
+unfoldable pub in_row : ℕ → Operator → Option Operator
+in_row row o = if eqb (row_of o) row then Some o else None
 
-unfoldable pub operator_in : ℕ → ExpressionWord → OperatorLookup
-operator_in row (part.Literal n) = Missing
-operator_in row part.Open = Missing
-operator_in row part.Close = Missing
+unfoldable pub operator_in : ℕ → ExpressionWord → Option Operator
+operator_in row (part.Literal n) = None
+operator_in row part.Open = None
+operator_in row part.Close = None
 operator_in row (part.Binary o) = in_row row o
-operator_in row part.Other = Missing
+operator_in row part.Other = None
 
 -- any operator
 abbrev pub is_operator : ExpressionWord → Bool

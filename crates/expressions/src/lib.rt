@@ -2,14 +2,14 @@
 #![tactic(auto)]
 
 ghost use Rattle.std.specs.Prelude.{◌≡◌};
-ghost use Rattle.expressions.specs.Reading.{mapped};
+ghost use Rattle.expressions.specs.Reading.{mapped, parsed};
 ghost use Rattle.expressions.specs.Words.{mark_part, part_of, in_row, operator_in, is_operator, is_close};
-ghost use Rattle.expressions.specs.Value.{given, earlier, settled, joined, placed, evaluated};
+ghost use Rattle.expressions.specs.Value.{given, settled, joined, placed, evaluated};
 ghost use Rattle.expressions.specs.Grammar.{closed_at, operand_at, row_at, number_at};
-ghost use Rattle.expressions.specs.Answers.{number_read};
 
+use basics::{Refusal, Rule};
 use lex::Word;
-use operators::{Computed, Operator};
+use operators::Operator;
 use vocabulary::Mark;
 
 const ROW_COUNT: usize = 8;
@@ -24,48 +24,32 @@ pub enum ExpressionWord {
     Other,
 }
 
-#[derive(Clone, Copy)]
-pub enum OperatorLookup {
-    Found(Operator),
-    Missing,
-}
-
-// Which operator refuses a number, by its place.
-#[derive(Clone, Copy)]
-pub enum Refusal {
-    Nowhere,
-    AtOperator(usize),
-}
-
-// A number, its place, and whether it is refused; the value of a refused one is 0.
-#[derive(Clone, Copy)]
+// A number, its place, and the place of the operator that refuses it, if one does; the value of a refused one is 0.
+#[derive(Clone, Copy, PartialEq, Eq)]
 pub struct Number {
     pub value: u64,
     pub place: usize,
-    pub refusal: Refusal,
+    pub refusal: Option<usize>,
 }
 
-#[derive(Clone, Copy)]
-pub enum NumberReading {
-    Done(Number, usize),
-    Refused(u8, usize),
-}
+// What stands at a cursor of a text with the cursor past it, or the refusal.
+pub type Reading<T> = Result<(T, usize), Refusal>;
 
 fn mark_part(mark: Mark) -> ExpressionWord
     ensures { result ≡ mark_part mark }
 {
     match mark {
-        Mark::OpenBrace => ExpressionWord::Other,
-        Mark::CloseBrace => ExpressionWord::Other,
-        Mark::OpenBracket => ExpressionWord::Other,
-        Mark::CloseBracket => ExpressionWord::Other,
-        Mark::Semicolon => ExpressionWord::Other,
-        Mark::Colon => ExpressionWord::Other,
-        Mark::Comma => ExpressionWord::Other,
-        Mark::Equals => ExpressionWord::Other,
-        Mark::At => ExpressionWord::Other,
-        Mark::PlusEquals => ExpressionWord::Other,
-        Mark::PercentEquals => ExpressionWord::Other,
+        Mark::OpenBrace
+        | Mark::CloseBrace
+        | Mark::OpenBracket
+        | Mark::CloseBracket
+        | Mark::Semicolon
+        | Mark::Colon
+        | Mark::Comma
+        | Mark::Equals
+        | Mark::At
+        | Mark::PlusEquals
+        | Mark::PercentEquals => ExpressionWord::Other,
         Mark::OpenParen => ExpressionWord::Open,
         Mark::CloseParen => ExpressionWord::Close,
         Mark::Times => ExpressionWord::Binary(Operator::Times),
@@ -93,225 +77,178 @@ fn part_of(word: Word) -> ExpressionWord
     ensures { result ≡ part_of word }
 {
     match word {
-        Word::End => ExpressionWord::Other,
-        Word::Name => ExpressionWord::Other,
-        Word::Keyword(_) => ExpressionWord::Other,
         Word::Number(value) => ExpressionWord::Literal(value),
-        Word::String => ExpressionWord::Other,
         Word::Mark(mark) => mark_part(mark),
-        Word::Bad(_) => ExpressionWord::Other,
+        Word::End | Word::Name | Word::Keyword(_) | Word::String | Word::Bad(_) =>
+            ExpressionWord::Other,
     }
 }
 
 // An operator, where it has that row.
-fn in_row(operator: Operator, row: usize) -> OperatorLookup
+fn in_row(operator: Operator, row: usize) -> Option<Operator>
     ensures { result ≡ in_row row operator }
 {
     if operators::row_of(operator) == row {
-        return OperatorLookup::Found(operator);
+        return Some(operator);
     }
-    OperatorLookup::Missing
+    None
 }
 
 // The operator that a part is, where it has that row.
 #[tactic(auto, unfolding(crate::specs::Words::operator_in))]
-fn operator_in(part: ExpressionWord, row: usize) -> OperatorLookup
+fn operator_in(part: ExpressionWord, row: usize) -> Option<Operator>
     ensures { result ≡ operator_in row part }
 {
     match part {
-        ExpressionWord::Literal(_) => OperatorLookup::Missing,
-        ExpressionWord::Open => OperatorLookup::Missing,
-        ExpressionWord::Close => OperatorLookup::Missing,
         ExpressionWord::Binary(operator) => in_row(operator, row),
-        ExpressionWord::Other => OperatorLookup::Missing,
+        ExpressionWord::Literal(_)
+        | ExpressionWord::Open
+        | ExpressionWord::Close
+        | ExpressionWord::Other => None,
     }
 }
 
 fn is_operator(part: ExpressionWord) -> bool
     ensures { result ≡ is_operator part }
 {
-    match part {
-        ExpressionWord::Literal(_) => false,
-        ExpressionWord::Open => false,
-        ExpressionWord::Close => false,
-        ExpressionWord::Binary(_) => true,
-        ExpressionWord::Other => false,
-    }
+    matches!(part, ExpressionWord::Binary(_))
 }
 
 fn is_close(part: ExpressionWord) -> bool
     ensures { result ≡ is_close part }
 {
-    match part {
-        ExpressionWord::Literal(_) => false,
-        ExpressionWord::Open => false,
-        ExpressionWord::Close => true,
-        ExpressionWord::Binary(_) => false,
-        ExpressionWord::Other => false,
-    }
-}
-
-// The refusal that stands first, of a left part's and a right part's.
-#[tactic(auto, unfolding(crate::specs::Value::earlier))]
-fn first_of(left: Refusal, right: Refusal) -> Refusal
-    ensures { result ≡ earlier left right }
-{
-    match left {
-        Refusal::Nowhere => right,
-        Refusal::AtOperator(place) => Refusal::AtOperator(place),
-    }
+    matches!(part, ExpressionWord::Close)
 }
 
 // What the operator at `operator_place` gives, in an expression that begins at `place`.
 #[tactic(auto, unfolding(crate::specs::Value::given))]
-fn give(operator_place: usize, place: usize, outcome: Computed) -> Number
+fn give(operator_place: usize, place: usize, outcome: Option<u64>) -> Number
     ensures { result ≡ given operator_place place outcome }
 {
     match outcome {
-        Computed::Is(value) => Number {
+        Some(value) => Number {
             value,
             place,
-            refusal: Refusal::Nowhere,
+            refusal: None,
         },
-        Computed::Out => Number {
+        None => Number {
             value: 0,
             place,
-            refusal: Refusal::AtOperator(operator_place),
+            refusal: Some(operator_place),
         },
     }
 }
 
 // No operator over a refused part is judged.
 #[tactic(auto, unfolding(crate::specs::Value::settled))]
-fn settle(refusal: Refusal, place: usize, judged: Number) -> Number
+fn settle(refusal: Option<usize>, place: usize, judged: Number) -> Number
     ensures { result ≡ settled refusal place judged }
 {
     match refusal {
-        Refusal::Nowhere => judged,
-        Refusal::AtOperator(operator_place) => Number {
+        None => judged,
+        Some(_) => Number {
             value: 0,
             place,
-            refusal: Refusal::AtOperator(operator_place),
+            refusal,
         },
     }
 }
 
-// An operator at a place between two numbers.
+// An operator at a place between two numbers. Of two refusals the left part's stands first.
 fn combine(operator: Operator, operator_place: usize, left: Number, right: Number) -> Number
     ensures { result ≡ joined operator operator_place left right }
 {
-    let left_refusal = left.refusal;
-    let right_refusal = right.refusal;
     let outcome = operators::apply(operator, left.value, right.value);
     settle(
-        first_of(left_refusal, right_refusal),
+        left.refusal.or(right.refusal),
         left.place,
         give(operator_place, left.place, outcome),
     )
 }
 
 // The closing parenthesis behind a number, whose opening one stands at `place`.
-fn close(text: &[u8], at: usize, place: usize, number: Number) -> NumberReading
-    ensures { number_read result ≡ closed_at (placed place number) text.now at }
+#[tactic(auto, unfolding(crate::specs::Grammar::closed_at))]
+fn close(text: &[u8], at: usize, place: usize, number: Number) -> Reading<Number>
+    ensures { parsed result ≡ closed_at (placed place number) text.now at }
 {
     let token = lex::next_token(text, at);
-    let word = token.word;
-    if !is_close(part_of(word)) {
-        return NumberReading::Refused(3, token.start);
+    if !is_close(part_of(token.word)) {
+        return Err(Rule::BadSentence.at(token.start));
     }
-    let refusal = number.refusal;
     let placed = Number {
         value: number.value,
         place,
-        refusal,
+        refusal: number.refusal,
     };
-    NumberReading::Done(placed, token.end)
+    Ok((placed, token.end))
 }
 
 // An operand, where so many parentheses may still be opened.
 #[cycle(read_operand_read_row)]
-fn read_operand(text: &[u8], at: usize, depth: usize) -> NumberReading
-    ensures { number_read result ≡ mapped evaluated (operand_at depth text.now at) }
+fn read_operand(text: &[u8], at: usize, depth: usize) -> Reading<Number>
+    ensures { parsed result ≡ mapped evaluated (operand_at depth text.now at) }
 {
     let token = lex::next_token(text, at);
-    let word = token.word;
-    match part_of(word) {
+    match part_of(token.word) {
         ExpressionWord::Literal(value) => {
             let number = Number {
                 value,
                 place: token.start,
-                refusal: Refusal::Nowhere,
+                refusal: None,
             };
-            NumberReading::Done(number, token.end)
+            Ok((number, token.end))
         }
         ExpressionWord::Open => {
             if depth == 0 {
-                return NumberReading::Refused(18, token.start);
+                return Err(Rule::TooMany.at(token.start));
             }
-            match read_row(text, token.end, depth - 1, ROW_COUNT) {
-                NumberReading::Done(number, next) => close(text, next, token.start, number),
-                NumberReading::Refused(number, place) => NumberReading::Refused(number, place),
-            }
+            let (number, next) = read_row(text, token.end, depth - 1, ROW_COUNT)?;
+            close(text, next, token.start, number)
         }
-        ExpressionWord::Close => NumberReading::Refused(3, token.start),
-        ExpressionWord::Binary(_) => NumberReading::Refused(3, token.start),
-        ExpressionWord::Other => NumberReading::Refused(3, token.start),
+        ExpressionWord::Close => Err(Rule::BadSentence.at(token.start)),
+        ExpressionWord::Binary(_) => Err(Rule::BadSentence.at(token.start)),
+        ExpressionWord::Other => Err(Rule::BadSentence.at(token.start)),
     }
 }
 
 // Operands of the rows tighter than `row`, joined by its operators.
 #[cycle(read_operand_read_row)]
-fn read_row(text: &[u8], at: usize, depth: usize, row: usize) -> NumberReading
-    ensures { number_read result ≡ mapped evaluated (row_at (operand_at depth text.now) row text.now at) }
+fn read_row(text: &[u8], at: usize, depth: usize, row: usize) -> Reading<Number>
+    ensures { parsed result ≡ mapped evaluated (row_at (operand_at depth text.now) row text.now at) }
 {
     if row == 0 {
         return read_operand(text, at, depth);
     }
-    match read_row(text, at, depth, row - 1) {
-        NumberReading::Refused(number, place) => NumberReading::Refused(number, place),
-        NumberReading::Done(first, behind) => {
-            let mut left = first;
-            let mut here = behind;
-            loop {
-                let token = lex::next_token(text, here);
-                let word = token.word;
-                match operator_in(part_of(word), row) {
-                    OperatorLookup::Missing => {
-                        return NumberReading::Done(left, here);
-                    }
-                    OperatorLookup::Found(operator) => {
-                        match read_row(text, token.end, depth, row - 1) {
-                            NumberReading::Refused(number, place) => {
-                                return NumberReading::Refused(number, place);
-                            }
-                            NumberReading::Done(right, next) => {
-                                left = combine(operator, token.start, left, right);
-                                here = next;
-                            }
-                        }
-                    }
-                }
+    let (first, behind) = read_row(text, at, depth, row - 1)?;
+    let mut left = first;
+    let mut here = behind;
+    loop {
+        let token = lex::next_token(text, here);
+        match operator_in(part_of(token.word), row) {
+            None => return Ok((left, here)),
+            Some(operator) => {
+                let (right, next) = read_row(text, token.end, depth, row - 1)?;
+                left = combine(operator, token.start, left, right);
+                here = next;
             }
         }
     }
 }
 
 // A constant expression; a number with no operator behind it is read at once.
-pub fn read_number(text: &[u8], at: usize) -> NumberReading
-    ensures { number_read result ≡ number_at text.now at }
+pub fn read_number(text: &[u8], at: usize) -> Reading<Number>
+    ensures { parsed result ≡ number_at text.now at }
 {
     let token = lex::next_token(text, at);
-    let word = token.word;
-    if let Word::Number(value) = word {
+    if let Word::Number(value) = token.word {
         let behind = lex::next_token(text, token.end);
-        let next = behind.word;
-        if !is_operator(part_of(next)) {
+        if !is_operator(part_of(behind.word)) {
             let number = Number {
                 value,
                 place: token.start,
-                refusal: Refusal::Nowhere,
+                refusal: None,
             };
-            return NumberReading::Done(number, token.end);
+            return Ok((number, token.end));
         }
     }
     read_row(text, at, basics::PARENTHESIS_LIMIT, ROW_COUNT)

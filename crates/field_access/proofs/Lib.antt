@@ -1,5 +1,3 @@
 pub mod Tests
-pub mod Accesses
-pub mod Reach
 pub mod FieldBits
 pub mod Below

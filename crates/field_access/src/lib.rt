@@ -16,12 +16,7 @@ pub fn address_of(access: Access) -> Offset
     ensures { result ≡ address_of access }
 {
     match access {
-        Access::Read { address, width: _ } => address,
-        Access::Write {
-            address,
-            width: _,
-            word: _,
-        } => address,
+        Access::Read { address, .. } | Access::Write { address, .. } => address,
     }
 }
 
@@ -29,12 +24,7 @@ pub fn width_of(access: Access) -> u64
     ensures { result ≡ width_of access }
 {
     match access {
-        Access::Read { address: _, width } => width,
-        Access::Write {
-            address: _,
-            width,
-            word: _,
-        } => width,
+        Access::Read { width, .. } | Access::Write { width, .. } => width,
     }
 }
 
@@ -43,22 +33,10 @@ pub fn is_well_formed(access: Access) -> bool
     ensures { result ≡ well_formed access }
 {
     match access {
-        Access::Read { address: _, width } => fields::is_width(width),
-        Access::Write {
-            address: _,
-            width,
-            word,
-        } => is_word_of(width, word),
+        Access::Read { width, .. } => fields::is_width(width),
+        Access::Write { width, word, .. } => fields::is_width(width)
+            && !fields::needs_more(word, width),
     }
-}
-
-fn is_word_of(width: u64, word: u64) -> bool
-    ensures { result ≡ (is_width width && ltb word (2 ^ width)) }
-{
-    if !fields::is_width(width) {
-        return false;
-    }
-    !fields::needs_more(word, width)
 }
 
 // Whether an access at an address, of a width, reaches a register.
@@ -66,26 +44,17 @@ pub fn reaches_register(address: Offset, width: u64, base: Offset, register: Reg
     requires { 8 ≤ width }
     ensures { result ≡ reaches_register address width base register }
 {
-    if register.access != width {
-        return false;
-    }
-    if address.0 < base.0 {
-        return false;
-    }
-    let distance = address.0 - base.0;
-    if distance >= register.width / 8 {
-        return false;
-    }
-    distance % (width / 8) == 0
+    register.access == width
+        && base.0 <= address.0
+        && address.0 - base.0 < register.width / 8
+        && (address.0 - base.0) % (width / 8) == 0
 }
 
 fn reaches_field(address: Offset, width: u64, field: View) -> bool
     requires { 8 ≤ width }
     ensures { result ≡ reaches address width field }
 {
-    let base = field.base;
-    let register = field.register;
-    reaches_register(address, width, base, register)
+    reaches_register(address, width, field.base, field.register)
 }
 
 // The lowest bit of the part at an address that reaches the field's register: from bytes to bits.
@@ -93,17 +62,14 @@ fn part_low(address: Offset, width: u64, field: View) -> BitPlace
     requires { (reaches address width field ≡ true) × (field.register.width ≤ 64) }
     ensures { (result ≡ part_low address field) × (result.0 < 64) }
 {
-    let base = field.base;
-    BitPlace((address.0 - base.0) * 8)
+    BitPlace((address.0 - field.base.0) * 8)
 }
 
 fn place_of(field: View, i: u64) -> BitPlace
     requires { (field.field.low.0 < 64) × (i < 64) }
     ensures { (result ≡ place_of field i) × (result.0 < 128) }
 {
-    let at = field.field;
-    let low = at.low;
-    BitPlace(low.0 + i)
+    BitPlace(field.field.low.0 + i)
 }
 
 fn reaches_bit(address: Offset, width: u64, field: View, i: u64) -> bool
@@ -115,34 +81,25 @@ fn reaches_bit(address: Offset, width: u64, field: View, i: u64) -> bool
     }
     let low = part_low(address, width, field);
     let place = place_of(field, i);
-    if place.0 < low.0 {
-        return false;
-    }
-    place.0 < low.0 + width
+    low.0 <= place.0 && place.0 < low.0 + width
 }
 
 fn read_bit_action(address: Offset, width: u64, field: View, i: u64) -> Action
     requires { ViewInRange width field × (i < size field) }
     ensures { result ≡ bit_action (Access.Read address width) field i }
 {
-    if !reaches_bit(address, width, field, i) {
-        return Action::Kept;
+    if reaches_bit(address, width, field, i) {
+        actions::read_action(field.field.values.onread)
+    } else {
+        Action::Kept
     }
-    let at = field.field;
-    let values = at.values;
-    actions::read_action(values.onread)
 }
 
 fn writes_bit(address: Offset, width: u64, field: View, i: u64) -> bool
     requires { ViewInRange width field × (i < size field) }
     ensures { result ≡ writes_bit address width field i }
 {
-    let at = field.field;
-    let values = at.values;
-    if !fields::is_writable(values) {
-        return false;
-    }
-    reaches_bit(address, width, field, i)
+    fields::is_writable(field.field.values) && reaches_bit(address, width, field, i)
 }
 
 // The word's bit for a bit of the field that a write reaches.
@@ -159,13 +116,12 @@ fn write_bit_action(address: Offset, width: u64, word: u64, field: View, i: u64)
     requires { ViewInRange width field × (i < size field) }
     ensures { result ≡ bit_action (Access.Write address width word) field i }
 {
-    if !writes_bit(address, width, field, i) {
-        return Action::Kept;
+    if writes_bit(address, width, field, i) {
+        let one = word_bit(address, width, word, field, i);
+        actions::write_action(field.field.values.onwrite, one)
+    } else {
+        Action::Kept
     }
-    let one = word_bit(address, width, word, field, i);
-    let at = field.field;
-    let values = at.values;
-    actions::write_action(values.onwrite, one)
 }
 
 // What an access does to a bit of the field.
@@ -188,10 +144,7 @@ fn size_of(field: View) -> u64
     requires { (field.field.low.0 ≤ field.field.high.0) × (field.field.high.0 < 64) }
     ensures { (result ≡ size field) × (result ≤ 64) }
 {
-    let at = field.field;
-    let low = at.low;
-    let high = at.high;
-    high.0 + 1 - low.0
+    field.field.high.0 + 1 - field.field.low.0
 }
 
 // The field's number, each bit under its action.
@@ -199,14 +152,11 @@ fn acted_number(access: Access, field: View, stored: u64) -> u64
     requires { ViewInRange (width_of access) field }
     ensures { result ≡ acted (size field) (bit_action access field) stored }
 {
-    let count = size_of(field);
     let mut lower: u64 = 0;
-    let mut i: u64 = 0;
-    while i < count {
+    for i in 0..size_of(field) {
         let action = bit_action(access, field, i);
         let one = bits::bit_at(stored, i);
         lower = bits::with_bit(lower, i, actions::applied(action, one));
-        i += 1;
     }
     lower
 }
@@ -216,10 +166,11 @@ pub fn number_after(access: Access, field: View, stored: u64) -> u64
     requires { ViewInRange (width_of access) field }
     ensures { result ≡ number_after access field stored }
 {
-    if !reaches_field(address_of(access), width_of(access), field) {
-        return stored;
+    if reaches_field(address_of(access), width_of(access), field) {
+        acted_number(access, field, stored)
+    } else {
+        stored
     }
-    acted_number(access, field, stored)
 }
 
 // The place in the field's register of bit j of the word.
@@ -236,24 +187,12 @@ fn gives_bit(address: Offset, width: u64, field: View, stored: u64, j: u64) -> b
     requires { ViewInRange width field × (j < width) }
     ensures { result ≡ field_gives address width field (bit stored) j }
 {
-    let at = field.field;
-    let values = at.values;
-    if !fields::is_readable(values) {
-        return false;
-    }
-    if !reaches_field(address, width, field) {
+    if !fields::is_readable(field.field.values) || !reaches_field(address, width, field) {
         return false;
     }
     let place = word_place(address, width, field, j);
-    let lowest = at.low;
-    let highest = at.high;
-    if place.0 < lowest.0 {
-        return false;
-    }
-    if highest.0 < place.0 {
-        return false;
-    }
-    bits::bit_at(stored, place.0 - lowest.0)
+    let low = field.field.low;
+    low.0 <= place.0 && place.0 <= field.field.high.0 && bits::bit_at(stored, place.0 - low.0)
 }
 
 // The word that a read answers, as far as this field gives it.
@@ -262,11 +201,9 @@ pub fn word_of(address: Offset, width: u64, field: View, stored: u64) -> u64
     ensures { result ≡ number width (field_gives address width field (bit stored)) }
 {
     let mut lower: u64 = 0;
-    let mut j: u64 = 0;
-    while j < width {
+    for j in 0..width {
         let one = gives_bit(address, width, field, stored, j);
         lower = bits::with_bit(lower, j, one);
-        j += 1;
     }
     lower
 }
@@ -275,44 +212,34 @@ fn reads_bit(address: Offset, width: u64, field: View, i: u64) -> bool
     requires { ViewInRange width field × (i < size field) }
     ensures { result ≡ reads_bit address width field i }
 {
-    let at = field.field;
-    let values = at.values;
-    if !fields::is_readable(values) {
-        return false;
-    }
-    reaches_bit(address, width, field, i)
+    fields::is_readable(field.field.values) && reaches_bit(address, width, field, i)
 }
 
 // Whether reading clears or sets the bits of a field.
 fn is_changed_by_reading(values: FieldType) -> bool
     ensures { result ≡ changed_by_reading values }
 {
-    if values.onread == fields::read_code(ReadEffect::Rclr) {
-        return true;
-    }
-    values.onread == fields::read_code(ReadEffect::Rset)
+    values.onread == fields::read_code(ReadEffect::Rclr)
+        || values.onread == fields::read_code(ReadEffect::Rset)
 }
 
 // Whether this bit of a word inverts the bits of a field.
 fn is_inverted_by(values: FieldType, one: bool) -> bool
     ensures { result ≡ inverted_by values one }
 {
-    if one {
-        return values.onwrite == fields::write_code(WriteEffect::Wot);
-    }
-    values.onwrite == fields::write_code(WriteEffect::Wzt)
+    let inverting = if one {
+        WriteEffect::Wot
+    } else {
+        WriteEffect::Wzt
+    };
+    values.onwrite == fields::write_code(inverting)
 }
 
 fn read_repeats_bit(address: Offset, width: u64, field: View, i: u64) -> bool
     requires { ViewInRange width field × (i < size field) }
     ensures { result ≡ repeats_bit (Access.Read address width) field i }
 {
-    if !reads_bit(address, width, field, i) {
-        return true;
-    }
-    let at = field.field;
-    let values = at.values;
-    !is_changed_by_reading(values)
+    !reads_bit(address, width, field, i) || !is_changed_by_reading(field.field.values)
 }
 
 fn write_repeats_bit(address: Offset, width: u64, word: u64, field: View, i: u64) -> bool
@@ -323,9 +250,7 @@ fn write_repeats_bit(address: Offset, width: u64, word: u64, field: View, i: u64
         return true;
     }
     let one = word_bit(address, width, word, field, i);
-    let at = field.field;
-    let values = at.values;
-    !is_inverted_by(values, one)
+    !is_inverted_by(field.field.values, one)
 }
 
 // Whether a bit of the field lets an access be made again.
@@ -344,17 +269,15 @@ fn repeats_bit(access: Access, field: View, i: u64) -> bool
 }
 
 // Whether each bit of the field lets an access be made again.
+#[tactic(auto, using(crate::proofs::Below::below_loop))]
 pub fn repeats_all(access: Access, field: View) -> bool
     requires { ViewInRange (width_of access) field }
     ensures { result ≡ all_below (size field) (repeats_bit access field) }
 {
-    let count = size_of(field);
-    let mut i: u64 = 0;
-    while i < count {
+    for i in 0..size_of(field) {
         if !repeats_bit(access, field, i) {
             return false;
         }
-        i += 1;
     }
     true
 }

@@ -1,7 +1,5 @@
 -- Fields and registers by their values, and the tests of the rules 12 to 17.
-use Rattle.std.specs.Prelude.{Bool, false, ◌||◌, ◌&&◌, not, ℕ, suc, ◌-◌, ◌/◌, ◌^◌, eqb, leb, ltb}
-use Rattle.basics.specs.declared.Given.{Given}
-use Rattle.basics.specs.declared.Given.TheVariants.{Nothing, Number}
+use Rattle.std.specs.Prelude.{Bool, false, ◌||◌, ◌&&◌, not, ℕ, suc, ◌-◌, ◌/◌, ◌^◌, eqb, leb, ltb, Option, Some, None}
 use Rattle.fields.specs.Codes.{access_code}
 use Rattle.fields.specs.declared.AccessRight.TheVariants as access
 use Rattle.fields.specs.declared.FieldType.{FieldType}
@@ -34,9 +32,9 @@ unfoldable pub has_unusable_effect : FieldType → Bool
 has_unusable_effect f = (has_read_effect f && not (is_readable f)) || (ltb 0 f.onwrite && not (is_writable f))
 
 -- 13: "reset too wide"
-abbrev pub is_wide : Given → ℕ → Bool
-is_wide Nothing width = false
-is_wide (Number n) width = leb (2 ^ width) n
+abbrev pub is_wide : Option ℕ → ℕ → Bool
+is_wide None width = false
+is_wide (Some n) width = leb (2 ^ width) n
 
 unfoldable pub is_reset_wide : FieldAt → Bool
 is_reset_wide f = is_wide f.values.reset (suc f.high.0 - f.low.0)
@@ -45,7 +43,7 @@ is_reset_wide f = is_wide f.values.reset (suc f.high.0 - f.low.0)
 unfoldable pub is_outside : ℕ → FieldAt → Bool
 is_outside width f = leb width f.high.0
 
--- "Overlap is lawful only between one read-only and one write_only_lem: `sw` is `r`, respectively `w`"
+-- "Overlap is lawful only between one read-only and one write-only: `sw` is `r`, respectively `w`"
 unfoldable pub is_read_write_pair : ℕ → ℕ → Bool
 is_read_write_pair a b = (eqb a (access_code access.R) && eqb b (access_code access.W)) || (eqb a (access_code access.W) && eqb b (access_code access.R))
 

@@ -5,10 +5,8 @@ ghost use Rattle.std.specs.Prelude.{◌≡◌, ◌&&◌, not, ◌<◌, ◌^◌, 
 ghost use Rattle.fields.specs.Codes.{access_code, read_code, write_code, mode_code, is_width};
 ghost use Rattle.fields.specs.Fields.{standard_register, is_readable, is_writable, has_unusable_effect, is_wide, is_reset_wide, is_read_write_pair, is_overlap, is_changed_by_access, spans_parts, breaks};
 
-use basics::Given;
-
 // `sw` and `hw`; `wr` is `rw`.
-#[derive(Clone, Copy)]
+#[derive(Clone, Copy, PartialEq, Eq)]
 pub enum AccessRight {
     Na,
     R,
@@ -17,7 +15,7 @@ pub enum AccessRight {
 }
 
 // `onread`.
-#[derive(Clone, Copy)]
+#[derive(Clone, Copy, PartialEq, Eq)]
 pub enum ReadEffect {
     Kept,
     Rclr,
@@ -25,7 +23,7 @@ pub enum ReadEffect {
 }
 
 // `onwrite`.
-#[derive(Clone, Copy)]
+#[derive(Clone, Copy, PartialEq, Eq)]
 pub enum WriteEffect {
     Plain,
     Woset,
@@ -39,7 +37,7 @@ pub enum WriteEffect {
 }
 
 // `addressing`.
-#[derive(Clone, Copy)]
+#[derive(Clone, Copy, PartialEq, Eq)]
 pub enum Mode {
     Compact,
     Regalign,
@@ -47,32 +45,32 @@ pub enum Mode {
 }
 
 // A bit's place in a register.
-#[derive(Clone, Copy)]
+#[derive(Clone, Copy, PartialEq, Eq)]
 pub struct BitPlace(pub u64);
 
 // A byte's offset in an address map or regfile. It is never mixed with a bit's place.
-#[derive(Clone, Copy)]
+#[derive(Clone, Copy, PartialEq, Eq)]
 pub struct Offset(pub u64);
 
 // A field's access and effects, as the numbers of the words, and its reset.
-#[derive(Clone, Copy)]
+#[derive(Clone, Copy, PartialEq, Eq)]
 pub struct FieldType {
     pub sw: u64,
     pub hw: u64,
     pub onread: u64,
     pub onwrite: u64,
-    pub reset: Given,
+    pub reset: Option<u64>,
 }
 
 // The widths of a register, in bits.
-#[derive(Clone, Copy)]
+#[derive(Clone, Copy, PartialEq, Eq)]
 pub struct Register {
     pub width: u64,
     pub access: u64,
 }
 
 // A field of a register.
-#[derive(Clone, Copy)]
+#[derive(Clone, Copy, PartialEq, Eq)]
 pub struct FieldAt {
     pub low: BitPlace,
     pub high: BitPlace,
@@ -81,7 +79,7 @@ pub struct FieldAt {
 
 // What a field of a register may be asked: whether its reset is too wide, whether it lies outside a width, whether it overlaps another
 // unlawfully, whether it spans access parts.
-#[derive(Clone, Copy)]
+#[derive(Clone, Copy, PartialEq, Eq)]
 pub enum Probe {
     Wide,
     Outside(u64),
@@ -157,56 +155,36 @@ pub fn mode_code(mode: Mode) -> u64
 pub fn is_width(n: u64) -> bool
     ensures { result ≡ is_width n }
 {
-    if n == 8 {
-        return true;
-    }
-    if n == 16 {
-        return true;
-    }
-    if n == 32 {
-        return true;
-    }
-    n == 64
+    n == 8 || n == 16 || n == 32 || n == 64
 }
 
 #[tactic(auto, unfolding(crate::specs::Fields::is_readable))]
 pub fn is_readable(field: FieldType) -> bool
     ensures { result ≡ is_readable field }
 {
-    if field.sw == access_code(AccessRight::R) {
-        return true;
-    }
-    field.sw == access_code(AccessRight::Rw)
+    field.sw == access_code(AccessRight::R) || field.sw == access_code(AccessRight::Rw)
 }
 
 #[tactic(auto, unfolding(crate::specs::Fields::is_writable))]
 pub fn is_writable(field: FieldType) -> bool
     ensures { result ≡ is_writable field }
 {
-    if field.sw == access_code(AccessRight::W) {
-        return true;
-    }
-    field.sw == access_code(AccessRight::Rw)
+    field.sw == access_code(AccessRight::W) || field.sw == access_code(AccessRight::Rw)
 }
 
 // Whether there is an effect, and no way to have it.
 fn is_unusable(effect: u64, usable: bool) -> bool
     ensures { result ≡ (ltb 0 effect && not usable) }
 {
-    if 0 < effect {
-        return !usable;
-    }
-    false
+    0 < effect && !usable
 }
 
 // 12: an effect on reading that cannot be read, or on writing that cannot be written.
+#[tactic(auto, unfolding(crate::specs::Fields::has_unusable_effect))]
 pub fn has_unusable_effect(field: FieldType) -> bool
     ensures { result ≡ has_unusable_effect field }
 {
-    if is_unusable(field.onread, is_readable(field)) {
-        return true;
-    }
-    is_unusable(field.onwrite, is_writable(field))
+    is_unusable(field.onread, is_readable(field)) || is_unusable(field.onwrite, is_writable(field))
 }
 
 // Whether a number needs more bits.
@@ -219,88 +197,66 @@ pub fn needs_more(value: u64, bits: u64) -> bool
     1u64 << bits <= value
 }
 
-fn is_wide(reset: Given, width: u64) -> bool
+fn is_wide(reset: Option<u64>, width: u64) -> bool
     ensures { result ≡ is_wide reset width }
 {
     match reset {
-        Given::Nothing => false,
-        Given::Number(value) => needs_more(value, width),
+        None => false,
+        Some(value) => needs_more(value, width),
     }
 }
 
+#[tactic(auto, unfolding(crate::specs::Fields::is_reset_wide))]
 fn is_reset_wide(field: FieldAt) -> bool
     requires { field.high.0 < 18446744073709551615 }
     ensures { result ≡ is_reset_wide field }
 {
-    let values = field.values;
-    let reset = values.reset;
     let past = field.high.0 + 1;
-    if past < field.low.0 {
-        return is_wide(reset, 0);
-    }
-    is_wide(reset, past - field.low.0)
+    is_wide(field.values.reset, past.saturating_sub(field.low.0))
 }
 
-// Whether the first is read-only and the second write_only_lem.
+// Whether the first is read-only and the second write-only.
 fn is_read_write(a: u64, b: u64) -> bool
     ensures { result ≡ (eqb a (access_code AccessRight.R) && eqb b (access_code AccessRight.W)) }
 {
-    if a != access_code(AccessRight::R) {
-        return false;
-    }
-    b == access_code(AccessRight::W)
+    a == access_code(AccessRight::R) && b == access_code(AccessRight::W)
 }
 
-// Whether one access is read-only and the other write_only_lem.
+// Whether one access is read-only and the other write-only.
+#[tactic(auto, unfolding(crate::specs::Fields::is_read_write_pair))]
 pub fn is_pair(a: u64, b: u64) -> bool
     ensures { result ≡ is_read_write_pair a b }
 {
-    if is_read_write(a, b) {
-        return true;
-    }
-    is_read_write(b, a)
+    is_read_write(a, b) || is_read_write(b, a)
 }
 
 // Whether two fields share a bit.
 fn share_bit(f: FieldAt, g: FieldAt) -> bool
     ensures { result ≡ (leb f.low.0 g.high.0 && leb g.low.0 f.high.0) }
 {
-    if g.high.0 < f.low.0 {
-        return false;
-    }
-    g.low.0 <= f.high.0
+    f.low.0 <= g.high.0 && g.low.0 <= f.high.0
 }
 
+#[tactic(auto, unfolding(crate::specs::Fields::is_overlap))]
 fn is_overlap(f: FieldAt, g: FieldAt) -> bool
     ensures { result ≡ is_overlap f g }
 {
-    if share_bit(f, g) {
-        return !is_pair(f.values.sw, g.values.sw);
-    }
-    false
+    share_bit(f, g) && !is_pair(f.values.sw, g.values.sw)
 }
 
 // Whether software changes a field, by a write or by a read.
+#[tactic(auto, unfolding(crate::specs::Fields::is_changed_by_access))]
 fn is_changed_by_access(field: FieldType) -> bool
     ensures { result ≡ is_changed_by_access field }
 {
-    if is_writable(field) {
-        return true;
-    }
-    0 < field.onread
+    is_writable(field) || 0 < field.onread
 }
 
+#[tactic(auto, unfolding(crate::specs::Fields::spans_parts))]
 fn spans_parts(part: u64, field: FieldAt) -> bool
     ensures { result ≡ spans_parts part field }
 {
-    if part == 0 {
-        return false;
-    }
-    let values = field.values;
-    if is_changed_by_access(values) {
-        return field.low.0 / part != field.high.0 / part;
-    }
-    false
+    part != 0 && is_changed_by_access(field.values) && field.low.0 / part != field.high.0 / part
 }
 
 // Whether a field of a register breaks a rule.

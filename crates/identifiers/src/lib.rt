@@ -10,20 +10,13 @@ use parts::Name;
 const PRINT_BOUND: u64 = 4294967296;
 
 // The bytes from a place up to another, as far as the text has them.
+#[tactic(auto, using(crate::proofs::Laws::bytes_cut))]
 pub fn bytes_of(text: &[u8], start: usize, end: usize) -> &[u8]
     ensures { result.now ≡ bytes_of text.now start end }
 {
-    let length = text.len();
-    if length <= start {
-        return &text[length..length];
-    }
-    if end <= start {
-        return &text[start..start];
-    }
-    if length <= end {
-        return &text[start..length];
-    }
-    &text[start..end]
+    let from = start.min(text.len());
+    let to = end.clamp(from, text.len());
+    &text[from..to]
 }
 
 #[tactic(auto, unfolding(crate::specs::Names::same_name))]
@@ -43,14 +36,13 @@ fn next_print(print: u64, b: u8) -> u64
 }
 
 // A number of 32 bits that equal byte strings share.
+#[tactic(auto, using(crate::proofs::Laws::print_next, crate::proofs::Laws::print_end))]
 pub fn print_of(bytes: &[u8]) -> u64
     ensures { (result ≡ print_from 0 bytes.now) × (result < print_bound) }
 {
     let mut print = 0;
-    let mut i = 0;
-    while i < bytes.len() {
-        print = next_print(print, bytes[i]);
-        i += 1;
+    for b in bytes {
+        print = next_print(print, *b);
     }
     print
 }

@@ -6,28 +6,22 @@ use Prim.Native.Nat.{ℕ, ◌+◌, ◌-◌, ◌*◌, ◌<◌, ◌≤◌}
 use native.Mathlib.Omega.{arith}
 use lib.Dec.{eqb, leb}
 use borrow.Author.Tests.{eq-eqb, ne_eqb, leb-true}
-use Rattle.std.specs.Prelude.{if◌then◌else◌}
+use Rattle.std.specs.Prelude.{if◌then◌else◌, Option, Some, None}
 use Rattle.chars.proofs.Laws.{either, and_left, and_right}
 use Rattle.expressions.specs.declared.Number.{Number}
 use Rattle.parts.specs.declared.Kind.{Kind}
 use Rattle.parts.specs.declared.Array.{Array}
 use Rattle.parts.specs.declared.Array.TheVariants as array
-use Rattle.parts.specs.declared.Suffix.{Suffix}
-use Rattle.parts.specs.declared.Suffix.TheVariants as suffix
 use Rattle.parts.specs.declared.SuffixKind.{SuffixKind}
 use Rattle.parts.specs.declared.SuffixKind.TheVariants.{Reset, Address, Stride, Alignment}
 use Rattle.parts.specs.declared.Instance.{Instance}
 use Rattle.property_values.specs.Settings.{is_field, is_alignment}
-use Rattle.basics.specs.Judged.{first_of}
+use Rattle.basics.specs.Judged.{first_of, Accepted}
 use Rattle.suffixes.specs.Suffixes.{is_size, array_fault, suffix_range, suffix_fault, is_array, is_barred, instance_fault}
-use Rattle.basics.specs.declared.Fault.TheVariants.{None}
 use Rattle.basics.specs.Given.{or_else}
-use Rattle.basics.specs.declared.Given.{Given}
 use Rattle.basics.specs.Limits.{array_limit, alignment_limit, highest_address}
 use Rattle.components.specs.Components.{start_of}
 use Rattle.fields.specs.declared.Offset.{Offset}
-use Rattle.components.specs.declared.Start.{Start}
-use Rattle.components.specs.declared.Start.TheVariants as start
 use Rattle.components.proofs.Laws.{first_sound, ranged-sound, settled-sound, later_sound}
 use Rattle.capped.specs.Offsets.{cap, factor_bound, cut, raised, common_multiple, power_above}
 use Rattle.capped.proofs.Laws.{cut_bound, cut_capped, cut_positive, cut_low, cut_stays, cut_sum, cut_product, cut-raised, cut_common, cut_power, common_low, above_reaches, alignment_low, alignment_high}
@@ -36,18 +30,18 @@ use Rattle.layout.specs.Fitting.{Layable, StartBelow, start_free, start_at, Star
 use Rattle.layout.specs.declared.Shape.{Shape}
 
 -- what a sound instance of a register or regfile says of its numbers
-given-sound : (barred : Bool) (k : SuffixKind) (mark : ℕ) (n : Number) → suffix_fault barred k (suffix.Given mark n) ≡ None → suffix_range k n.value ≡ true
-given-sound true k mark n e = absurd (let z : ◌≡◌ {A = ℕ} 0 1 = cc in omega arith)
+given-sound : (barred : Bool) (k : SuffixKind) (mark : ℕ) (n : Number) → suffix_fault barred k (Some (mark, n)) ≡ Accepted → suffix_range k n.value ≡ true
+given-sound true k mark n e = absurd cc
 given-sound false k mark n e = ranged-sound (suffix_range k n.value) n.place (settled-sound n.refusal _ e)
 
 size-sound : (n : ℕ) → is_size false n ≡ true → (1 ≤ n) × (n ≤ array_limit)
 unfolding is_size
 size-sound n t = (leb-true 1 n (and_left (leb 1 n) (leb n array_limit) t), leb-true n array_limit (and_right (leb 1 n) (leb n array_limit) t))
 
-array_sound : (a : Array) → array_fault false a ≡ None → (1 ≤ elements a) × (elements a ≤ array_limit)
+array_sound : (a : Array) → array_fault false a ≡ Accepted → (1 ≤ elements a) × (elements a ≤ array_limit)
 array_sound array.Missing e = (omega arith, omega arith)
 array_sound (array.Size mark n) e = size-sound n.value (ranged-sound (is_size false n.value) n.place (settled-sound n.refusal _ e))
-array_sound (array.Range mark left right) e = absurd (let z : ◌≡◌ {A = ℕ} 0 1 = cc in omega arith)
+array_sound (array.Range mark left right) e = absurd cc
 
 address_range : (n : ℕ) → suffix_range Address n ≡ true → n < cap
 unfolding suffix_range
@@ -55,40 +49,40 @@ address_range n t =
     let l : n ≤ highest_address = leb-true n highest_address t in
     omega arith
 
-address_sound : (barred : Bool) (x : Suffix) → suffix_fault barred Address x ≡ None → StartBelow (start_of x)
-address_sound barred suffix.Missing e = start_free
-address_sound barred (suffix.Given mark n) e = start_at (address_range n.value (given-sound barred Address mark n e))
+address_sound : (barred : Bool) (x : Option (ℕ × Number)) → suffix_fault barred Address x ≡ Accepted → StartBelow (start_of x)
+address_sound barred None e = start_free
+address_sound barred (Some (mark, n)) e = start_at (address_range n.value (given-sound barred Address mark n e))
 
 stride_range : (n : ℕ) → suffix_range Stride n ≡ true → (1 ≤ n) × (n ≤ highest_address)
 unfolding suffix_range
 stride_range n t = (leb-true 1 n (and_left (leb 1 n) (leb n highest_address) t), leb-true n highest_address (and_right (leb 1 n) (leb n highest_address) t))
 
-stride_sound : (barred : Bool) (x : Suffix) → suffix_fault barred Stride x ≡ None → (1 ≤ stride_or x 1) × (stride_or x 1 ≤ highest_address)
-stride_sound barred suffix.Missing e = (omega arith, omega arith)
-stride_sound barred (suffix.Given mark n) e = stride_range n.value (given-sound barred Stride mark n e)
+stride_sound : (barred : Bool) (x : Option (ℕ × Number)) → suffix_fault barred Stride x ≡ Accepted → (1 ≤ stride_or x 1) × (stride_or x 1 ≤ highest_address)
+stride_sound barred None e = (omega arith, omega arith)
+stride_sound barred (Some (mark, n)) e = stride_range n.value (given-sound barred Stride mark n e)
 
 step_range : (n : ℕ) → suffix_range Alignment n ≡ true → (1 ≤ n) × (n ≤ alignment_limit)
 unfolding suffix_range
 step_range n t = (alignment_low n t, alignment_high n t)
 
-step_sound : (barred : Bool) (x : Suffix) → suffix_fault barred Alignment x ≡ None → (1 ≤ step_or x 1) × (step_or x 1 ≤ alignment_limit)
-step_sound barred suffix.Missing e = (omega arith, omega arith)
-step_sound barred (suffix.Given mark n) e = step_range n.value (given-sound barred Alignment mark n e)
+step_sound : (barred : Bool) (x : Option (ℕ × Number)) → suffix_fault barred Alignment x ≡ Accepted → (1 ≤ step_or x 1) × (step_or x 1 ≤ alignment_limit)
+step_sound barred None e = (omega arith, omega arith)
+step_sound barred (Some (mark, n)) e = step_range n.value (given-sound barred Alignment mark n e)
 
-module _ (kind : Kind) (i : Instance) (f : is_field kind ≡ false) (e : instance_fault kind i ≡ None) where
+module _ (kind : Kind) (i : Instance) (f : is_field kind ≡ false) (e : instance_fault kind i ≡ Accepted) where
   pub sound-elements : (1 ≤ elements i.array) × (elements i.array ≤ array_limit)
   unfolding instance_fault
   sound-elements = array_sound i.array (rw f at (first_sound (array_fault (is_field kind) i.array) _ e))
 
   behind_reset : first_of (suffix_fault (is_barred Address (is_field kind) i) Address i.address)
       (first_of (suffix_fault (is_barred Stride (is_field kind) i) Stride i.stride)
-      (suffix_fault (is_barred Alignment (is_field kind) i) Alignment i.alignment)) ≡ None
+      (suffix_fault (is_barred Alignment (is_field kind) i) Alignment i.alignment)) ≡ Accepted
   unfolding instance_fault
   behind_reset =
       later_sound (suffix_fault (is_barred Reset (is_field kind) i) Reset i.reset) _ (later_sound (array_fault (is_field kind) i.array) _ e)
 
   behind_address : first_of (suffix_fault (is_barred Stride (is_field kind) i) Stride i.stride)
-      (suffix_fault (is_barred Alignment (is_field kind) i) Alignment i.alignment) ≡ None
+      (suffix_fault (is_barred Alignment (is_field kind) i) Alignment i.alignment) ≡ Accepted
   behind_address = later_sound (suffix_fault (is_barred Address (is_field kind) i) Address i.address) _ behind_reset
 
   -- `@`
@@ -136,20 +130,20 @@ module _ {x y : ℕ} (e : Alike x y) where
   alike_common : (a : ℕ) → is_alignment a ≡ true → 1 ≤ x → 1 ≤ y → Alike (common_multiple a x) (common_multiple a y)
   alike_common a t p q = record { same = sym (cut_common a x t p) ∙ (rw e.same (cut_common a y t q)) }
 
-  alike_stride : (n : Suffix) → Alike (stride_or n x) (stride_or n y)
-  alike_stride suffix.Missing = e
-  alike_stride (suffix.Given mark n) = alike_self n.value
+  alike_stride : (n : Option (ℕ × Number)) → Alike (stride_or n x) (stride_or n y)
+  alike_stride None = e
+  alike_stride (Some (mark, n)) = alike_self n.value
 
-  alike_step : (n : Suffix) → Alike (step_or n x) (step_or n y)
-  alike_step suffix.Missing = e
-  alike_step (suffix.Given mark n) = alike_self n.value
+  alike_step : (n : Option (ℕ × Number)) → Alike (step_or n x) (step_or n y)
+  alike_step None = e
+  alike_step (Some (mark, n)) = alike_self n.value
 
-  alike_start : (at : Start) {s t : ℕ} → 1 ≤ s → 1 ≤ t → Alike s t → Alike (start_after at (record { 0 = x }) s).0 (start_after at (record { 0 = y }) t).0
-  alike_start start.Free p q f = alike_raised p q f
-  alike_start (start.At o) p q f = alike_self o.0
+  alike_start : (at : Option Offset) {s t : ℕ} → 1 ≤ s → 1 ≤ t → Alike s t → Alike (start_after at (record { 0 = x }) s).0 (start_after at (record { 0 = y }) t).0
+  alike_start None p q f = alike_raised p q f
+  alike_start (Some o) p q f = alike_self o.0
 
 -- what is made of a cut shape
-module _ (a : Given) (s : Shape) (i : Instance) where
+module _ (a : Option ℕ) (s : Shape) (i : Instance) where
   module _ (p : 1 ≤ or_else 1 a) where
     strided : Alike (stride_of a (cut_shape s) i) (stride_of a s i)
     unfolding stride_of
@@ -184,25 +178,25 @@ module _ (a : Given) (s : Shape) (i : Instance) where
         either (λ (n : ℕ). 1 ≤ n) (eqb m 0) (λ _. q)
         (λ _. either (λ (n : ℕ). 1 ≤ n) (eqb m 2 && is_array i.array) (λ _. omega (arith, span_low, above_reaches (span_of a s i))) (λ _. p))
 
-or_low : (n : Suffix) (x : ℕ) → 1 ≤ step_or n 1 → 1 ≤ x → 1 ≤ step_or n x
-or_low suffix.Missing x h p = p
-or_low (suffix.Given mark n) x h p = h
+or_low : (n : Option (ℕ × Number)) (x : ℕ) → 1 ≤ step_or n 1 → 1 ≤ x → 1 ≤ step_or n x
+or_low None x h p = p
+or_low (Some (mark, n)) x h p = h
 
-module _ (m : ℕ) (a : Given) (s : Shape) (i : Instance) where
+module _ (m : ℕ) (a : Option ℕ) (s : Shape) (i : Instance) where
   step_low : is_alignment (or_else 1 a) ≡ true → 1 ≤ s.size → 1 ≤ s.access → 1 ≤ step_or i.alignment 1 → 1 ≤ step_of m a s i
   unfolding step_of
   step_low t p q h =
       let l : 1 ≤ mode_step m a s i = mode_low a s i p q m in
       or_low i.alignment (common_multiple (or_else 1 a) (mode_step m a s i)) h (omega (arith, common_low (or_else 1 a) (mode_step m a s i) t l))
 
-module _ (m : ℕ) (a : Given) (s : Shape) (i : Instance) where
+module _ (m : ℕ) (a : Option ℕ) (s : Shape) (i : Instance) where
   alike_steps : is_alignment (or_else 1 a) ≡ true → 1 ≤ s.size → 1 ≤ s.access → Alike (step_of m a (cut_shape s) i) (step_of m a s i)
   unfolding step_of
   alike_steps t p q =
       alike_step (alike_common (stepped a s i (alignment_low (or_else 1 a) t) m) (or_else 1 a) t
       (mode_low a (cut_shape s) i (cut_positive s.size p) (cut_positive s.access q) m) (mode_low a s i p q m)) i.alignment
 
-  pub cut-laid : (end : Offset) → is_alignment (or_else 1 a) ≡ true → 1 ≤ s.size → 1 ≤ s.access → (kind : Kind) → is_field kind ≡ false → instance_fault kind i ≡ None
+  pub cut-laid : (end : Offset) → is_alignment (or_else 1 a) ≡ true → 1 ≤ s.size → 1 ≤ s.access → (kind : Kind) → is_field kind ≡ false → instance_fault kind i ≡ Accepted
       → cut_laid (laid m a (cut_shape s) i (cut_offset end)) ≡ cut_laid (laid m a s i end)
   unfolding laid
   cut-laid end t p q kind f e =
@@ -213,22 +207,22 @@ module _ (m : ℕ) (a : Given) (s : Shape) (i : Instance) where
       (step_low m a (cut_shape s) i t (cut_positive s.size p) (cut_positive s.access q) h) (step_low m a s i t p q h) (alike_steps t p q) in
       rw (from.same, cut_strided a s i o, (alike_sum from (spanned a s i o)).same)
 
-or_high : (n : Suffix) (x : ℕ) → stride_or n 1 ≤ cap → x ≤ cap → stride_or n x ≤ cap
-or_high suffix.Missing x h p = p
-or_high (suffix.Given mark n) x h p = h
+or_high : (n : Option (ℕ × Number)) (x : ℕ) → stride_or n 1 ≤ cap → x ≤ cap → stride_or n x ≤ cap
+or_high None x h p = p
+or_high (Some (mark, n)) x h p = h
 
-or_same : (n : Suffix) (x : ℕ) → stride_or n x ≡ step_or n x
-or_same suffix.Missing x = refl
-or_same (suffix.Given mark n) x = refl
+or_same : (n : Option (ℕ × Number)) (x : ℕ) → stride_or n x ≡ step_or n x
+or_same None x = refl
+or_same (Some (mark, n)) x = refl
 
 turned : (b : Bool) {c : Bool} → not b ≡ c → b ≡ not c
 turned true e = rw (← e)
 turned false e = rw (← e)
 
 -- what the code makes
-module _ (a : Given) (s : Shape) (i : Instance) (f : Layable a s i) where
+module _ (a : Option ℕ) (s : Shape) (i : Instance) (f : Layable a s i) where
   module _ {own : ℕ} (e : own ≡ or_else 1 a) where
-    pub own_aligned : is_alignment own ≡ true
+    own_aligned : is_alignment own ≡ true
     own_aligned = rw e f.aligned
 
     pub own_low : 1 ≤ own
@@ -310,15 +304,15 @@ module _ (a : Given) (s : Shape) (i : Instance) (f : Layable a s i) where
       step_positive =
           rw step_done (cut_positive (step_of m a s i) (step_low m a s i f.aligned f.sized.0 f.accessed.0 (sound_step f.kind i f.addressed f.sound).0))
 
-    pub starts_low : {at : Start} {end r : Offset} {step : ℕ} → at ≡ start_of i.address → StartsAt at end step r → r.0 ≤ cap
+    pub starts_low : {at : Option Offset} {end r : Offset} {step : ℕ} → at ≡ start_of i.address → StartsAt at end step r → r.0 ≤ cap
     starts_low e g = g.low (rw e (sound_start f.kind i f.addressed f.sound))
 
-    pub lay_done : (end : Offset) {at : Start} {from : Offset} {step stride span past : ℕ} → at ≡ start_of i.address → step ≡ cut (step_of m a s i) → 1 ≤ step → StartsAt at end step from
+    pub lay_done : (end : Offset) {at : Option Offset} {from : Offset} {step stride span past : ℕ} → at ≡ start_of i.address → step ≡ cut (step_of m a s i) → 1 ≤ step → StartsAt at end step from
         → stride ≡ cut (stride_of a s i) → span ≡ cut (span_of a s i) → past ≡ cut (from.0 + span)
         → record { start = from; stride = stride; end = record { 0 = past } } ≡ cut_laid (laid m a s i end)
     unfolding laid
     lay_done end {from = from} {step = step} {past = past} e g p h u v w =
-        let at : Start = start_of i.address in
+        let at : Option Offset = start_of i.address in
         let t : ℕ = step_of m a s i in
         let l : 1 ≤ t = step_low m a s i f.aligned f.sized.0 f.accessed.0 (sound_step f.kind i f.addressed f.sound).0 in
         let q : from ≡ cut_offset (start_after at end step) = (rw e at h).each (sound_start f.kind i f.addressed f.sound) in
@@ -327,19 +321,16 @@ module _ (a : Given) (s : Shape) (i : Instance) (f : Layable a s i) where
         rw (y, x, u)
 
 -- where an instance starts
-at_below : {at : Start} {o : Offset} → at ≡ start.At o → StartBelow at → o.0 < cap
-at_below e start_free = absurd (let z : ◌≡◌ {A = ℕ} 0 1 = cc in omega arith)
+at_below : {at : Option Offset} {o : Offset} → at ≡ Some o → StartBelow at → o.0 < cap
+at_below e start_free = absurd cc
 at_below {o = o} e (start_at {o = p} l) =
     let q : p ≡ o = cc in
     rw q at l
 
-module _ (at : Start) (end : Offset) (step : ℕ) where
-  pub starts_at : {o : Offset} → at ≡ start.At o → StartsAt at end step o
+module _ (at : Option Offset) (end : Offset) (step : ℕ) where
+  pub starts_at : {o : Offset} → at ≡ Some o → StartsAt at end step o
   starts_at {o = o} e =
       record {
         each = λ b. rw e (ap (λ (n : ℕ). record { 0 = n }) (sym (cut_low o.0 (at_below e b))));
         low = λ b. omega (arith, at_below e b);
       }
-
-  pub starts_free : {r : ℕ} → at ≡ start.Free → (r ≡ cut (raised end.0 step)) × (r ≤ cap) → StartsAt at end step (record { 0 = r })
-  starts_free e (g, l) = record { each = λ b. rw e (ap (λ (n : ℕ). record { 0 = n }) g); low = λ b. l }

@@ -6,8 +6,6 @@ ghost use Rattle.capped.specs.Offsets.{cap, cut};
 ghost use Rattle.layout.specs.Layout.{elements, stride_or, stride_of, span_of, mode_step, step_of, laid, cut_laid};
 ghost use Rattle.layout.specs.Fitting.{Layable, StartsAt};
 
-use basics::Given;
-use components::Start;
 use fields::{Mode, Offset};
 use parts::{Array, Instance, Suffix};
 
@@ -31,9 +29,8 @@ pub fn elements_of(array: Array) -> u64
     ensures { result ≡ elements array }
 {
     match array {
-        Array::Missing => 1,
         Array::Size(_, size) => size.value,
-        Array::Range(_, _, _) => 1,
+        Array::Missing | Array::Range(_, _, _) => 1,
     }
 }
 
@@ -42,77 +39,71 @@ fn number_or(suffix: Suffix, standard: u64) -> u64
     ensures { result ≡ stride_or suffix standard }
 {
     match suffix {
-        Suffix::Missing => standard,
-        Suffix::Given(_, number) => number.value,
+        Some((_, number)) => number.value,
+        None => standard,
     }
 }
 
 // The distance of two elements of an array.
-fn stride_of(alignment: Given, shape: Shape, instance: Instance) -> u64
+fn stride_of(alignment: Option<u64>, shape: Shape, instance: Instance) -> u64
     requires { Layable alignment shape instance }
     ensures { (result ≡ cut (stride_of alignment shape instance)) × (result ≤ cap) }
 {
-    let stride = instance.stride;
-    let step = basics::or_else(1, alignment);
-    let standard = capped::raise(shape.size, step);
-    number_or(stride, standard)
+    let standard = capped::raise(shape.size, alignment.unwrap_or(1));
+    number_or(instance.stride, standard)
 }
 
 // What all elements of an instance take.
-fn span_of(alignment: Given, shape: Shape, instance: Instance) -> u64
+fn span_of(alignment: Option<u64>, shape: Shape, instance: Instance) -> u64
     requires { Layable alignment shape instance }
     ensures { (result ≡ cut (span_of alignment shape instance)) × (result ≤ cap) }
 {
-    let array = instance.array;
     let stride = stride_of(alignment, shape, instance);
-    let count = elements_of(array);
+    let count = elements_of(instance.array);
     let before = capped::product(stride, count - 1);
     capped::sum(before, shape.size)
 }
 
 // The step that the map's mode gives.
-fn mode_step(mode: u64, alignment: Given, shape: Shape, instance: Instance) -> u64
+fn mode_step(mode: u64, alignment: Option<u64>, shape: Shape, instance: Instance) -> u64
     requires { Layable alignment shape instance }
     ensures { (result ≡ cut (mode_step mode alignment shape instance)) × (1 ≤ result) × (result ≤ cap) }
 {
-    let array = instance.array;
     if mode == fields::mode_code(Mode::Compact) {
         return shape.access;
     }
     if mode != fields::mode_code(Mode::Fullalign) {
         return shape.size;
     }
-    if !suffixes::is_array(array) {
+    if !suffixes::is_array(instance.array) {
         return shape.size;
     }
-    let span = span_of(alignment, shape, instance);
-    capped::power_above(span)
+    capped::power_above(span_of(alignment, shape, instance))
 }
 
 // The number that an instance's offset is a multiple of.
-fn step_of(mode: u64, alignment: Given, shape: Shape, instance: Instance) -> u64
+fn step_of(mode: u64, alignment: Option<u64>, shape: Shape, instance: Instance) -> u64
     requires { Layable alignment shape instance }
     ensures { (result ≡ cut (step_of mode alignment shape instance)) × (1 ≤ result) × (result ≤ cap) }
 {
-    let suffix = instance.alignment;
-    let own = basics::or_else(1, alignment);
-    let standard = capped::common_multiple(own, mode_step(mode, alignment, shape, instance));
-    number_or(suffix, standard)
+    let step = mode_step(mode, alignment, shape, instance);
+    let standard = capped::common_multiple(alignment.unwrap_or(1), step);
+    number_or(instance.alignment, standard)
 }
 
 // The offset of an instance behind the one that ends at `end`.
-fn start_after(start: Start, end: Offset, step: u64) -> Offset
+fn start_after(start: Option<Offset>, end: Offset, step: u64) -> Offset
     requires { (end.0 ≤ cap) × (1 ≤ step) × (step ≤ cap) }
     ensures { StartsAt start end step result }
 {
     match start {
-        Start::At(offset) => offset,
-        Start::Free => Offset(capped::raise(end.0, step)),
+        Some(offset) => offset,
+        None => Offset(capped::raise(end.0, step)),
     }
 }
 
 // Where an instance lies behind the one that ends at `end`, in a map of this mode.
-pub fn lay(mode: u64, alignment: Given, shape: Shape, instance: Instance, end: Offset) -> Laid
+pub fn lay(mode: u64, alignment: Option<u64>, shape: Shape, instance: Instance, end: Offset) -> Laid
     requires { Layable alignment shape instance × (end.0 ≤ cap) }
     ensures { (result ≡ cut_laid (laid mode alignment shape instance end)) × (result.end.0 ≤ cap) }
 {

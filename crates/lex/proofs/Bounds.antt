@@ -7,18 +7,14 @@ use native.Mathlib.Omega.{arith}
 use lib.Dec.{ltb, eqb}
 use lib.ListN.{length, take, drop, drop_of_length-le, length-drop, length-take}
 use borrow.Author.Tests.{ltb-true, ltb-false}
-use Rattle.std.specs.Prelude.{if◌then◌else◌}
+use Rattle.std.specs.Prelude.{if◌then◌else◌, Option, Some, None, Result, Ok, Err}
 use Rattle.chars.specs.Ascii.{is_blank, is_line_end, is_letter, is_name_byte, is_number_byte, is_digit}
 use Rattle.chars.specs.Run.{run}
 use Rattle.chars.specs.declared.Radix.TheVariants.{Decimal}
 use Rattle.chars.proofs.Laws.{either, run_length}
 use Rattle.vocabulary.specs.Vocabulary.{mark_of, mark_bytes}
 use Rattle.vocabulary.specs.declared.Mark.{Mark}
-use Rattle.vocabulary.specs.declared.MarkLookup.{MarkLookup}
-use Rattle.vocabulary.specs.declared.MarkLookup.TheVariants.{IsMark, NoMark}
 use Rattle.vocabulary.proofs.Laws.{mark_spelt}
-use Rattle.lex.specs.declared.Next.{Next}
-use Rattle.lex.specs.declared.Next.TheVariants.{At, Unclosed}
 use Rattle.lex.specs.declared.Token.{Token}
 use Rattle.lex.specs.declared.Word.{Word}
 use Rattle.lex.specs.declared.Word.TheVariants as word
@@ -31,13 +27,13 @@ both : {A : Type 0} (Q : A → Type 0) (t : Bool) {x y : A} → Q x → Q y → 
 both Q t p q = either Q t (λ _. p) (λ _. q)
 
 -- a place from `low` to `high`; an unclosed comment starts at `first` or after it
-abbrev pub Found : ℕ → ℕ → ℕ → Next → Type 0
-Found first low high (At i) = (low ≤ i) × (i ≤ high)
-Found first low high (Unclosed o) = (first ≤ o) × (o < high)
+abbrev pub Found : ℕ → ℕ → ℕ → Result ℕ ℕ → Type 0
+Found first low high (Ok i) = (low ≤ i) × (i ≤ high)
+Found first low high (Err o) = (first ≤ o) × (o < high)
 
-widen : (first low high first' low' high' : ℕ) (x : Next) → first' ≤ first → low' ≤ low → high ≤ high' → Found first low high x → Found first' low' high' x
-widen first low high first' low' high' (At i) f g h p = (omega arith, omega arith)
-widen first low high first' low' high' (Unclosed o) f g h p = (omega arith, omega arith)
+widen : (first low high first' low' high' : ℕ) (x : Result ℕ ℕ) → first' ≤ first → low' ≤ low → high ≤ high' → Found first low high x → Found first' low' high' x
+widen first low high first' low' high' (Ok i) f g h p = (omega arith, omega arith)
+widen first low high first' low' high' (Err o) f g h p = (omega arith, omega arith)
 
 mutual
   unfolding blanks
@@ -79,27 +75,27 @@ mutual
       more
 
 -- the closing quote lies behind the opening one, in the text
-abbrev pub Closed : ℕ → ℕ → Next → Type 0
-Closed low high (At q) = (low ≤ q) × (q < high)
-Closed low high (Unclosed o) = Unit {0}
+abbrev pub Closed : ℕ → ℕ → Result ℕ ℕ → Type 0
+Closed low high (Ok q) = (low ≤ q) × (q < high)
+Closed low high (Err o) = Unit {0}
 
 pub closing-found : (o before p : ℕ) (s : List ℕ) (high : ℕ) → p + length s ≤ high → Closed p high (closing o before p s)
 unfolding closing
 closing-found o before p [] high h = tt
 closing-found o before p (b ∷ s) high h = both (Closed p high) (closes before b) (omega arith, omega arith) (lower (closing o b (p + 1) s) (closing-found o b (p + 1) s high (omega arith)))
   where
-    lower : (x : Next) → Closed (p + 1) high x → Closed p high x
-    lower (At q) c = (omega arith, c.1)
-    lower (Unclosed u) c = tt
+    lower : (x : Result ℕ ℕ) → Closed (p + 1) high x → Closed p high x
+    lower (Ok q) c = (omega arith, c.1)
+    lower (Err u) c = tt
 
 -- what the search for the closing quote says of its place
-module _ (i : ℕ) (t : List ℕ) {x : Next} {q : ℕ} (e : x ≡ closing_from i 34 t (i + 1)) (f : x ≡ At q) (h : i < length t) where
-  quote_within : Closed (i + 1) (length t) (At q)
+module _ (i : ℕ) (t : List ℕ) {x : Result ℕ ℕ} {q : ℕ} (e : x ≡ closing_from i 34 t (i + 1)) (f : x ≡ Ok q) (h : i < length t) where
+  quote_within : Closed (i + 1) (length t) (Ok q)
   unfolding closing_from
   quote_within =
       let l : i + 1 + length (drop (i + 1) t) ≤ length t = simp length-drop (omega arith) in
       let c : Closed (i + 1) (length t) (closing i 34 (i + 1) (drop (i + 1) t)) = closing-found i 34 (i + 1) (drop (i + 1) t) (length t) l in
-      let g : closing i 34 (i + 1) (drop (i + 1) t) ≡ At q = sym e ∙ f in
+      let g : closing i 34 (i + 1) (drop (i + 1) t) ≡ Ok q = sym e ∙ f in
       rw g at c
 
   pub quote_after : i + 1 ≤ q
@@ -127,30 +123,30 @@ run_lies : (P : ℕ → Bool) (p b : ℕ) (s : List ℕ) (w : Word) → P b ≡ 
 run_lies P p b s w e =
     lies p (p + suc (length s)) (p + length (run P (b ∷ s))) w (omega (arith, run-some P b s e)) (omega (arith, run_length P (b ∷ s)))
 
-string_lies : (p n : ℕ) (x : Next) → Closed (p + 1) (p + suc n) x → Lies p (p + suc n) (string_to p (p + suc n) x)
-string_lies p n (At q) c = lies p (p + suc n) (q + 1) _ (omega arith) (omega arith)
-string_lies p n (Unclosed o) c = lies p (p + suc n) (p + suc n) _ (omega arith) (omega arith)
+string_lies : (p n : ℕ) (x : Result ℕ ℕ) → Closed (p + 1) (p + suc n) x → Lies p (p + suc n) (string_to p (p + suc n) x)
+string_lies p n (Ok q) c = lies p (p + suc n) (q + 1) _ (omega arith) (omega arith)
+string_lies p n (Err o) c = lies p (p + suc n) (p + suc n) _ (omega arith) (omega arith)
 
 -- the bytes of a mark that stands at the start of s are one byte or more, all of s
-pub mark_fits : (s : List ℕ) (m : Mark) → 0 < length s → longer (mark_of (take 2 s)) (mark_of (take 1 s)) ≡ IsMark m
+pub mark_fits : (s : List ℕ) (m : Mark) → 0 < length s → longer (mark_of (take 2 s)) (mark_of (take 1 s)) ≡ Some m
     → (0 < length (mark_bytes m)) × (length (mark_bytes m) ≤ length s)
 mark_fits s m h = cases (mark_of (take 2 s)) refl
   where
     Fits : Type 0
     Fits = (0 < length (mark_bytes m)) × (length (mark_bytes m) ≤ length s)
 
-    part : (k : ℕ) → 0 < k → mark_of (take k s) ≡ IsMark m → Fits
+    part : (k : ℕ) → 0 < k → mark_of (take k s) ≡ Some m → Fits
     part k l e =
         let n : min k (length s) ≡ length (mark_bytes m) = rw length-take at (ap length (mark_spelt (take k s) e)) in
         (omega arith, omega arith)
 
-    cases : (x : MarkLookup) → mark_of (take 2 s) ≡ x → longer x (mark_of (take 1 s)) ≡ IsMark m → Fits
-    cases (IsMark a) e f = part 2 (omega arith) (e ∙ f)
-    cases NoMark e f = part 1 (omega arith) f
+    cases : (x : Option Mark) → mark_of (take 2 s) ≡ x → longer x (mark_of (take 1 s)) ≡ Some m → Fits
+    cases (Some a) e f = part 2 (omega arith) (e ∙ f)
+    cases None e f = part 1 (omega arith) f
 
 -- a mark ends in the text
-pub mark_room : (t : List ℕ) (i : ℕ) {l : MarkLookup} {m : Mark} {n : ℕ} → i < length t → l ≡ longer (mark_of (take 2 (drop i t))) (mark_of (take 1 (drop i t)))
-    → l ≡ IsMark m → n ≡ length (mark_bytes m) → i + n ≤ length t
+pub mark_room : (t : List ℕ) (i : ℕ) {l : Option Mark} {m : Mark} {n : ℕ} → i < length t → l ≡ longer (mark_of (take 2 (drop i t))) (mark_of (take 1 (drop i t)))
+    → l ≡ Some m → n ≡ length (mark_bytes m) → i + n ≤ length t
 mark_room t i {m = m} {n = n} h e f g =
     let s : 0 < length (drop i t) = simp length-drop (omega arith) in
     let w : n ≤ length t - i = rw (g, ← length-drop) (mark_fits (drop i t) m s (sym e ∙ f)).1 in
@@ -160,11 +156,11 @@ mark_lies : (p b : ℕ) (s : List ℕ) → Lies p (p + suc (length s)) (mark_tok
 unfolding mark_token
 mark_lies p b s = cases (longer (mark_of (take 2 (b ∷ s))) (mark_of (take 1 (b ∷ s)))) refl
   where
-    cases : (x : MarkLookup) → longer (mark_of (take 2 (b ∷ s))) (mark_of (take 1 (b ∷ s))) ≡ x → Lies p (p + suc (length s)) (mark_word p x)
-    cases (IsMark m) e =
+    cases : (x : Option Mark) → longer (mark_of (take 2 (b ∷ s))) (mark_of (take 1 (b ∷ s))) ≡ x → Lies p (p + suc (length s)) (mark_word p x)
+    cases (Some m) e =
         let f : (0 < length (mark_bytes m)) × (length (mark_bytes m) ≤ suc (length s)) = mark_fits (b ∷ s) m (omega arith) e in
         lies p (p + suc (length s)) (p + length (mark_bytes m)) _ (omega arith) (omega arith)
-    cases NoMark e = lies p (p + suc (length s)) (p + 1) _ (omega arith) (omega arith)
+    cases None e = lies p (p + suc (length s)) (p + 1) _ (omega arith) (omega arith)
 
 second : (x z : Bool) {y : Bool} → y ≡ true → ((x || y) || z) ≡ true
 second true z e = refl
@@ -191,12 +187,12 @@ pub record Within (text : List ℕ) (at : ℕ) (k : Token) : Type 0 where
   pub ordered : k.start ≤ k.end
   pub inside : k.end ≤ length text
 
-past_within : (t : List ℕ) (at : ℕ) (x : Next) → Found at at (length t) x → Within t at (token_past t x)
-past_within t at (At i) f =
+past_within : (t : List ℕ) (at : ℕ) (x : Result ℕ ℕ) → Found at at (length t) x → Within t at (token_past t x)
+past_within t at (Ok i) f =
     let l : Lies i (i + length (drop i t)) (token_from i (drop i t)) = from_lies i (drop i t) in
     let n : i + length (drop i t) ≤ length t = simp length-drop (omega arith) in
     record { after = omega arith; ordered = omega arith; inside = omega arith }
-past_within t at (Unclosed o) f = record { after = omega arith; ordered = omega arith; inside = omega arith }
+past_within t at (Err o) f = record { after = omega arith; ordered = omega arith; inside = omega arith }
 
 pub next_found : (t : List ℕ) (at : ℕ) → at ≤ length t → Found at at (length t) (next_from t at)
 unfolding next_from
@@ -208,9 +204,9 @@ pub token-within : (t : List ℕ) (at : ℕ) → at ≤ length t → Within t at
 unfolding token_at
 token-within t at h = past_within t at (next_from t at) (next_found t at h)
 
-past_moves : (t : List ℕ) (at high : ℕ) (x : Next) → Found at at high x → high ≤ at + length (drop at t) → ((token_past t x).word ≡ word.End → ⊥) → at < (token_past t x).end
-past_moves t at high (At i) f l n = omega (arith, (from_lies i (drop i t)).moves n)
-past_moves t at high (Unclosed o) f l n = omega (arith, length-drop at t)
+past_moves : (t : List ℕ) (at high : ℕ) (x : Result ℕ ℕ) → Found at at high x → high ≤ at + length (drop at t) → ((token_past t x).word ≡ word.End → ⊥) → at < (token_past t x).end
+past_moves t at high (Ok i) f l n = omega (arith, (from_lies i (drop i t)).moves n)
+past_moves t at high (Err o) f l n = omega (arith, length-drop at t)
 
 -- "a token that isn't the end moves the cursor on"
 pub token_moves : (t : List ℕ) (at : ℕ) → ((token_at t at).word ≡ word.End → ⊥) → at < (token_at t at).end

@@ -9,7 +9,7 @@ use lib.Dec.{ltb, eqb}
 use lib.ListN.{length, take, drop, get_or, length-take, length-drop}
 use lib.Seq.{get_or-take, take-nil, take_all, take-length, drop-drop}
 use borrow.Author.Tests.{ltb-true, ltb-false, eqb-true, eqb-false}
-use Rattle.std.specs.Prelude.{if◌then◌else◌}
+use Rattle.std.specs.Prelude.{if◌then◌else◌, Option, Some, None, Result, Ok, Err}
 use Rattle.chars.specs.Ascii.{is_blank, is_line_end, is_letter, is_name_byte, is_number_byte, is_digit}
 use Rattle.chars.specs.Run.{run, every}
 use Rattle.chars.specs.declared.Radix.TheVariants.{Decimal}
@@ -18,14 +18,8 @@ use Rattle.vocabulary.specs.Vocabulary.{keyword_of, mark_of, mark_bytes}
 use Rattle.vocabulary.specs.declared.Lookup.{Lookup}
 use Rattle.vocabulary.specs.declared.Lookup.TheVariants as lookup
 use Rattle.vocabulary.specs.declared.Mark.{Mark}
-use Rattle.vocabulary.specs.declared.MarkLookup.{MarkLookup}
-use Rattle.vocabulary.specs.declared.MarkLookup.TheVariants.{IsMark, NoMark}
 use Rattle.vocabulary.proofs.Laws.{keyword_spelt, mark_spelt}
 use Rattle.numbers.specs.Number.{number_of}
-use Rattle.numbers.specs.declared.Numeral.{Numeral}
-use Rattle.numbers.specs.declared.Numeral.TheVariants as numeral
-use Rattle.lex.specs.declared.Next.{Next}
-use Rattle.lex.specs.declared.Next.TheVariants.{At, Unclosed}
 use Rattle.lex.specs.declared.Cause.TheVariants as cause
 use Rattle.lex.specs.declared.Token.{Token}
 use Rattle.lex.specs.declared.Word.{Word}
@@ -36,6 +30,8 @@ use Rattle.lex.specs.Quote.{closes, closing}
 use Rattle.lex.specs.Token.{token, keyword_word, name_word, number_word, name_token, number_token, string_to, string_token, longer, mark_word, mark_token, token_from, token_past, token_at}
 use Rattle.lex.specs.Spelt.{token_bytes, NameBytes, ToQuote, to_quote_end, to_quote_on, NoQuote, no_quote_end, no_quote_on, Unended, unended_none, unended_one, unended_on, StringBytes, long_name, no_number, long_string, no_word, LeftOpen, open_string, open_comment, Spelt}
 use Rattle.lex.proofs.Bounds.{Found, Closed, closing-found, number_byte, from_lies, next_found}
+use Rattle.numbers.specs.declared.BadNumber.{BadNumber}
+use Rattle.numbers.specs.declared.BadNumber.TheVariants.{Malformed, TooWide}
 
 -- the bytes of a run are all in its class
 run_all : (P : ℕ → Bool) (s : List ℕ) → every P (run P s) ≡ true
@@ -66,10 +62,10 @@ name_spelt n h = either (λ (w : Word). Spelt w n) (ltb name_limit (length n)) (
 number_first : (b : ℕ) (s : List ℕ) → is_digit Decimal b ≡ true → is_digit Decimal (get_or (run is_number_byte (b ∷ s)) 0 0) ≡ true
 number_first b s e = rw (run_first is_number_byte b s (number_byte b e)) e
 
-number_spelt : (n : List ℕ) → is_digit Decimal (get_or n 0 0) ≡ true → every is_number_byte n ≡ true → (x : Numeral) → number_of n ≡ x → Spelt (number_word x) n
-number_spelt n d a (numeral.Fits v) e = e
-number_spelt n d a numeral.Malformed e = no_number d a e
-number_spelt n d a numeral.TooWide e = e
+number_spelt : (n : List ℕ) → is_digit Decimal (get_or n 0 0) ≡ true → every is_number_byte n ≡ true → (x : Result ℕ BadNumber) → number_of n ≡ x → Spelt (number_word x) n
+number_spelt n d a (Ok v) e = e
+number_spelt n d a (Err Malformed) e = no_number d a e
+number_spelt n d a (Err TooWide) e = e
 
 -- the bytes of `s`, the text from p on, that a token from p to e has
 abbrev At-place : ℕ → List ℕ → Token → Type 0
@@ -89,64 +85,64 @@ mark_place : (p b : ℕ) (s : List ℕ) → is_letter b ≡ false → is_digit D
 unfolding mark_token
 mark_place p b s l d q = cases (mark_of (take 2 (b ∷ s))) (mark_of (take 1 (b ∷ s))) refl refl
   where
-    known : (k : ℕ) (m : Mark) → mark_of (take k (b ∷ s)) ≡ IsMark m → At-place p (b ∷ s) (mark_word p (IsMark m))
+    known : (k : ℕ) (m : Mark) → mark_of (take k (b ∷ s)) ≡ Some m → At-place p (b ∷ s) (mark_word p (Some m))
     known k m e =
         let w : take k (b ∷ s) ≡ mark_bytes m = mark_spelt (take k (b ∷ s)) e in
         let n : p + length (mark_bytes m) - p ≡ length (mark_bytes m) = omega arith in
         rw (n, ← w, take-length-take k (b ∷ s))
 
-    cases : (x y : MarkLookup) → mark_of (take 2 (b ∷ s)) ≡ x → mark_of (take 1 (b ∷ s)) ≡ y → At-place p (b ∷ s) (mark_word p (longer x y))
-    cases (IsMark m) y e f = known 2 m e
-    cases NoMark (IsMark m) e f = known 1 m f
-    cases NoMark NoMark e f =
+    cases : (x y : Option Mark) → mark_of (take 2 (b ∷ s)) ≡ x → mark_of (take 1 (b ∷ s)) ≡ y → At-place p (b ∷ s) (mark_word p (longer x y))
+    cases (Some m) y e f = known 2 m e
+    cases None (Some m) e f = known 1 m f
+    cases None None e f =
         let n : p + 1 - p ≡ 1 = omega arith in
         rw n (no_word b refl l d (eqb-false b 34 q) f)
 
 -- the byte at the place of a closing quote is a quote
-quote_here : (before p b : ℕ) (s : List ℕ) (q : ℕ) → closes before b ≡ true → At p ≡ At q → get_or (b ∷ s) (q - p) 0 ≡ 34
+quote_here : (before p b : ℕ) (s : List ℕ) (q : ℕ) → closes before b ≡ true → ◌≡◌ {A = Result ℕ ℕ} (Ok p) (Ok q) → get_or (b ∷ s) (q - p) 0 ≡ 34
 unfolding closes
 quote_here before p b s q c e =
     let m : p ≡ q = cc in
     let n : q - p ≡ 0 = omega arith in
     rw n (eqb-true b 34 (and_left (eqb b 34) (not (eqb before 92)) c))
 
-quote_later : (o b p : ℕ) (s : List ℕ) (q : ℕ) → closing o b (p + 1) s ≡ At q → get_or s (q - (p + 1)) 0 ≡ 34 → get_or (b ∷ s) (q - p) 0 ≡ 34
+quote_later : (o b p : ℕ) (s : List ℕ) (q : ℕ) → closing o b (p + 1) s ≡ Ok q → get_or s (q - (p + 1)) 0 ≡ 34 → get_or (b ∷ s) (q - p) 0 ≡ 34
 quote_later o b p s q e h =
-    let c : Closed (p + 1) (p + 1 + length s) (At q) = rw e at (closing-found o b (p + 1) s (p + 1 + length s) (omega arith)) in
+    let c : Closed (p + 1) (p + 1 + length s) (Ok q) = rw e at (closing-found o b (p + 1) s (p + 1 + length s) (omega arith)) in
     let n : q - p ≡ suc (q - (p + 1)) = omega arith in
     rw n h
 
-closing_quote : (o before p : ℕ) (s : List ℕ) (q : ℕ) → closing o before p s ≡ At q → get_or s (q - p) 0 ≡ 34
+closing_quote : (o before p : ℕ) (s : List ℕ) (q : ℕ) → closing o before p s ≡ Ok q → get_or s (q - p) 0 ≡ 34
 unfolding closing
 closing_quote o before p [] q = λ e. absurd (let z : ◌≡◌ {A = ℕ} 0 1 = cc in omega arith)
 closing_quote o before p (b ∷ s) q =
-    either (λ (x : Next). x ≡ At q → get_or (b ∷ s) (q - p) 0 ≡ 34) (closes before b) (λ c e. quote_here before p b s q c e)
+    either (λ (x : Result ℕ ℕ). x ≡ Ok q → get_or (b ∷ s) (q - p) 0 ≡ 34) (closes before b) (λ c e. quote_here before p b s q c e)
     (λ _ e. quote_later o b p s q e (closing_quote o b (p + 1) s q e))
 
 -- up to it, the bytes run from the opening quote; where there is none, no byte closes
-closing_runs : (o before p : ℕ) (s : List ℕ) (q : ℕ) → closing o before p s ≡ At q → ToQuote before (take (suc (q - p)) s)
+closing_runs : (o before p : ℕ) (s : List ℕ) (q : ℕ) → closing o before p s ≡ Ok q → ToQuote before (take (suc (q - p)) s)
 unfolding closing
 closing_runs o before p [] q = λ e. absurd (let z : ◌≡◌ {A = ℕ} 0 1 = cc in omega arith)
 closing_runs o before p (b ∷ s) q =
-    either (λ (x : Next). x ≡ At q → ToQuote before (take (suc (q - p)) (b ∷ s))) (closes before b) (λ c e. here c e) (λ c e. later c e (closing_runs o b (p + 1) s q e))
+    either (λ (x : Result ℕ ℕ). x ≡ Ok q → ToQuote before (take (suc (q - p)) (b ∷ s))) (closes before b) (λ c e. here c e) (λ c e. later c e (closing_runs o b (p + 1) s q e))
   where
-    here : closes before b ≡ true → At p ≡ At q → ToQuote before (take (suc (q - p)) (b ∷ s))
+    here : closes before b ≡ true → ◌≡◌ {A = Result ℕ ℕ} (Ok p) (Ok q) → ToQuote before (take (suc (q - p)) (b ∷ s))
     here c e =
         let m : p ≡ q = cc in
         let n : q - p ≡ 0 = omega arith in
         rw n (to_quote_end c)
 
-    later : closes before b ≡ false → closing o b (p + 1) s ≡ At q → ToQuote b (take (suc (q - (p + 1))) s) → ToQuote before (take (suc (q - p)) (b ∷ s))
+    later : closes before b ≡ false → closing o b (p + 1) s ≡ Ok q → ToQuote b (take (suc (q - (p + 1))) s) → ToQuote before (take (suc (q - p)) (b ∷ s))
     later c e r =
-        let w : Closed (p + 1) (p + 1 + length s) (At q) = rw e at (closing-found o b (p + 1) s (p + 1 + length s) (omega arith)) in
+        let w : Closed (p + 1) (p + 1 + length s) (Ok q) = rw e at (closing-found o b (p + 1) s (p + 1 + length s) (omega arith)) in
         let n : q - p ≡ suc (q - (p + 1)) = omega arith in
         rw n (to_quote_on c r)
 
-closing_open : (o before p : ℕ) (s : List ℕ) {u : ℕ} → closing o before p s ≡ Unclosed u → NoQuote before s
+closing_open : (o before p : ℕ) (s : List ℕ) {u : ℕ} → closing o before p s ≡ Err u → NoQuote before s
 unfolding closing
 closing_open o before p [] = λ _. no_quote_end
 closing_open o before p (b ∷ s) {u} =
-    either (λ (x : Next). x ≡ Unclosed u → NoQuote before (b ∷ s)) (closes before b) (λ _ e. absurd (let z : ◌≡◌ {A = ℕ} 0 1 = cc in omega arith))
+    either (λ (x : Result ℕ ℕ). x ≡ Err u → NoQuote before (b ∷ s)) (closes before b) (λ _ e. absurd (let z : ◌≡◌ {A = ℕ} 0 1 = cc in omega arith))
     (λ c e. no_quote_on c (closing_open o b (p + 1) s e))
 
 -- a quote, `d` bytes and a quote
@@ -160,9 +156,9 @@ string_place : (p : ℕ) (s : List ℕ) → At-place p (34 ∷ s) (string_token 
 unfolding string_token
 string_place p s = ended (closing p 34 (p + 1) s) refl
   where
-    closed : (q : ℕ) → closing p 34 (p + 1) s ≡ At q → Spelt (if ltb string_limit (q - (p + 1)) then word.Bad cause.Malformed else word.String) (take (q + 1 - p) (34 ∷ s))
+    closed : (q : ℕ) → closing p 34 (p + 1) s ≡ Ok q → Spelt (if ltb string_limit (q - (p + 1)) then word.Bad cause.Malformed else word.String) (take (q + 1 - p) (34 ∷ s))
     closed q e =
-        let c : Closed (p + 1) (p + suc (length s)) (At q) = rw e at (closing-found p 34 (p + 1) s (p + suc (length s)) (omega arith)) in
+        let c : Closed (p + 1) (p + suc (length s)) (Ok q) = rw e at (closing-found p 34 (p + 1) s (p + suc (length s)) (omega arith)) in
         let n : q + 1 - p ≡ suc (suc (q - (p + 1))) = omega arith in
         let d : ℕ = q - (p + 1) in
         let m : length (take (suc d) s) ≡ suc d = simp length-take (omega arith) in
@@ -171,9 +167,9 @@ string_place p s = ended (closing p 34 (p + 1) s) refl
         (either (λ (x : Word). Spelt x (34 ∷ take (suc d) s)) (ltb string_limit d) (λ l. long_string w (omega (arith, m, ltb-true string_limit d l)))
         (λ l. record { string = w; limit = omega (arith, m, ltb-false string_limit d l) }))
 
-    ended : (x : Next) → closing p 34 (p + 1) s ≡ x → At-place p (34 ∷ s) (string_to p (p + suc (length s)) x)
-    ended (At q) e = closed q e
-    ended (Unclosed o) e =
+    ended : (x : Result ℕ ℕ) → closing p 34 (p + 1) s ≡ x → At-place p (34 ∷ s) (string_to p (p + suc (length s)) x)
+    ended (Ok q) e = closed q e
+    ended (Err o) e =
         let n : p + suc (length s) - p ≡ suc (length s) = omega arith in
         rw (n, take-length s) (open_string s refl (closing_open p 34 (p + 1) s e))
 
@@ -193,44 +189,44 @@ from_place p (b ∷ s) =
     quote e = rw e (string_place p s)
 
 -- Comments that the text's end leaves open. `s` is the text from the place p on.
-abbrev Opens : ℕ → List ℕ → Next → Type 0
-Opens p s (At i) = Unit {0}
-Opens p s (Unclosed o) = (p ≤ o) × LeftOpen (drop (o - p) s)
+abbrev Opens : ℕ → List ℕ → Result ℕ ℕ → Type 0
+Opens p s (Ok i) = Unit {0}
+Opens p s (Err o) = (p ≤ o) × LeftOpen (drop (o - p) s)
 
 -- in a comment that starts at `first`: it is left open, or a later one is
-abbrev OpensIn : ℕ → ℕ → List ℕ → Next → Type 0
-OpensIn first p s (At i) = Unit {0}
-OpensIn first p s (Unclosed o) = ((o ≡ first) × Unended s) ⊎ ((p ≤ o) × LeftOpen (drop (o - p) s))
+abbrev OpensIn : ℕ → ℕ → List ℕ → Result ℕ ℕ → Type 0
+OpensIn first p s (Ok i) = Unit {0}
+OpensIn first p s (Err o) = ((o ≡ first) × Unended s) ⊎ ((p ≤ o) × LeftOpen (drop (o - p) s))
 
 module _ (p b : ℕ) where
-  opens_on : (s : List ℕ) (x : Next) → Opens (p + 1) s x → Opens p (b ∷ s) x
-  opens_on s (At i) h = tt
-  opens_on s (Unclosed o) h =
+  opens_on : (s : List ℕ) (x : Result ℕ ℕ) → Opens (p + 1) s x → Opens p (b ∷ s) x
+  opens_on s (Ok i) h = tt
+  opens_on s (Err o) h =
       let n : o - p ≡ suc (o - (p + 1)) = omega arith in
       (omega arith, rw n h.1)
 
   module _ (c : ℕ) (s : List ℕ) where
-    opens_two : (x : Next) → Opens (p + 2) s x → Opens p (b ∷ c ∷ s) x
-    opens_two (At i) h = tt
-    opens_two (Unclosed o) h =
+    opens_two : (x : Result ℕ ℕ) → Opens (p + 2) s x → Opens p (b ∷ c ∷ s) x
+    opens_two (Ok i) h = tt
+    opens_two (Err o) h =
         let n : o - p ≡ suc (suc (o - (p + 2))) = omega arith in
         (omega arith, rw n h.1)
 
-    opens_block : (x : Next) → b ≡ 47 → c ≡ 42 → OpensIn p (p + 2) s x → Opens p (b ∷ c ∷ s) x
-    opens_block (At i) e f h = tt
-    opens_block (Unclosed o) e f (inl h) =
+    opens_block : (x : Result ℕ ℕ) → b ≡ 47 → c ≡ 42 → OpensIn p (p + 2) s x → Opens p (b ∷ c ∷ s) x
+    opens_block (Ok i) e f h = tt
+    opens_block (Err o) e f (inl h) =
         let n : o - p ≡ 0 = omega arith in
         (omega arith, rw n (open_comment s (rw (e, f)) h.1))
-    opens_block (Unclosed o) e f (inr h) = opens_two (Unclosed o) h
+    opens_block (Err o) e f (inr h) = opens_two (Err o) h
 
-    block_on : (first : ℕ) (x : Next) → (b ≡ 42 → c ≡ 47 → ⊥) → OpensIn first (p + 1) (c ∷ s) x → OpensIn first p (b ∷ c ∷ s) x
-    block_on first (At i) n h = tt
-    block_on first (Unclosed o) n (inl h) = inl (h.0, unended_on n h.1)
-    block_on first (Unclosed o) n (inr h) = inr (opens_on (c ∷ s) (Unclosed o) h)
+    block_on : (first : ℕ) (x : Result ℕ ℕ) → (b ≡ 42 → c ≡ 47 → ⊥) → OpensIn first (p + 1) (c ∷ s) x → OpensIn first p (b ∷ c ∷ s) x
+    block_on first (Ok i) n h = tt
+    block_on first (Err o) n (inl h) = inl (h.0, unended_on n h.1)
+    block_on first (Err o) n (inr h) = inr (opens_on (c ∷ s) (Err o) h)
 
-block_past : (first p : ℕ) (s : List ℕ) (x : Next) → Opens p s x → OpensIn first p s x
-block_past first p s (At i) h = tt
-block_past first p s (Unclosed o) h = inr h
+block_past : (first p : ℕ) (s : List ℕ) (x : Result ℕ ℕ) → Opens p s x → OpensIn first p s x
+block_past first p s (Ok i) h = tt
+block_past first p s (Err o) h = inr h
 
 mutual
   unfolding blanks
@@ -266,9 +262,9 @@ pub token_spelt : (t : List ℕ) (at : ℕ) → Spelt (token_at t at).word (toke
 unfolding token_at next_from
 token_spelt t at = past (next_from t at) (blanks_opens at (drop at t))
   where
-    past : (x : Next) → Opens at (drop at t) x → Spelt (token_past t x).word (token_bytes t (token_past t x))
-    past (At i) h = rw (from_lies i (drop i t)).starts (from_place i (drop i t))
-    past (Unclosed o) h =
+    past : (x : Result ℕ ℕ) → Opens at (drop at t) x → Spelt (token_past t x).word (token_bytes t (token_past t x))
+    past (Ok i) h = rw (from_lies i (drop i t)).starts (from_place i (drop i t))
+    past (Err o) h =
         let n : at + (o - at) ≡ o = omega arith in
         let w : drop (o - at) (drop at t) ≡ drop o t = rw (drop-drop (o - at) at t, n) in
         let l : take (length t - o) (drop o t) ≡ drop o t = take_all (length t - o) (drop o t) (simp length-drop (omega arith)) in
@@ -288,20 +284,20 @@ name_not_open {X} n =
     found lookup.LeftOut e = absurd (let z : ◌≡◌ {A = ℕ} 0 1 = cc in omega arith)
     found lookup.NotKeyword e = absurd (let z : ◌≡◌ {A = ℕ} 0 1 = cc in omega arith)
 
-number_not_open : {X : Type 0} (x : Numeral) → number_word x ≡ word.Bad cause.Unclosed → X
-number_not_open (numeral.Fits v) e = absurd (let z : ◌≡◌ {A = ℕ} 0 1 = cc in omega arith)
-number_not_open numeral.Malformed e = absurd (let z : ◌≡◌ {A = ℕ} 0 1 = cc in omega arith)
-number_not_open numeral.TooWide e = absurd (let z : ◌≡◌ {A = ℕ} 0 1 = cc in omega arith)
+number_not_open : {X : Type 0} (x : Result ℕ BadNumber) → number_word x ≡ word.Bad cause.Unclosed → X
+number_not_open (Ok v) e = absurd (let z : ◌≡◌ {A = ℕ} 0 1 = cc in omega arith)
+number_not_open (Err Malformed) e = absurd (let z : ◌≡◌ {A = ℕ} 0 1 = cc in omega arith)
+number_not_open (Err TooWide) e = absurd (let z : ◌≡◌ {A = ℕ} 0 1 = cc in omega arith)
 
-mark_not_open : {X : Type 0} (p : ℕ) (x : MarkLookup) → (mark_word p x).word ≡ word.Bad cause.Unclosed → X
-mark_not_open p (IsMark m) e = absurd (let z : ◌≡◌ {A = ℕ} 0 1 = cc in omega arith)
-mark_not_open p NoMark e = absurd (let z : ◌≡◌ {A = ℕ} 0 1 = cc in omega arith)
+mark_not_open : {X : Type 0} (p : ℕ) (x : Option Mark) → (mark_word p x).word ≡ word.Bad cause.Unclosed → X
+mark_not_open p (Some m) e = absurd (let z : ◌≡◌ {A = ℕ} 0 1 = cc in omega arith)
+mark_not_open p None e = absurd (let z : ◌≡◌ {A = ℕ} 0 1 = cc in omega arith)
 
-string_to_end : (p high : ℕ) (x : Next) → LeftToEnd high (string_to p high x)
-string_to_end p high (At q) =
+string_to_end : (p high : ℕ) (x : Result ℕ ℕ) → LeftToEnd high (string_to p high x)
+string_to_end p high (Ok q) =
     either (λ (w : Word). w ≡ word.Bad cause.Unclosed → q + 1 ≡ high) (ltb string_limit (q - (p + 1))) (λ _ e. absurd (let z : ◌≡◌ {A = ℕ} 0 1 = cc in omega arith))
     (λ _ e. absurd (let z : ◌≡◌ {A = ℕ} 0 1 = cc in omega arith))
-string_to_end p high (Unclosed o) = λ e. refl
+string_to_end p high (Err o) = λ e. refl
 
 from_to_end : (p : ℕ) (s : List ℕ) → LeftToEnd (p + length s) (token_from p s)
 unfolding token_from name_token number_token string_token mark_token
@@ -317,8 +313,8 @@ pub open_to_end : (t : List ℕ) (at : ℕ) → at ≤ length t → (token_at t 
 unfolding token_at
 open_to_end t at h = past (next_from t at) (next_found t at h)
   where
-    past : (x : Next) → Found at at (length t) x → LeftToEnd (length t) (token_past t x)
-    past (At i) f e =
+    past : (x : Result ℕ ℕ) → Found at at (length t) x → LeftToEnd (length t) (token_past t x)
+    past (Ok i) f e =
         let n : i + length (drop i t) ≡ length t = simp length-drop (omega arith) in
         from_to_end i (drop i t) e ∙ n
-    past (Unclosed o) f e = refl
+    past (Err o) f e = refl

@@ -1,5 +1,5 @@
 -- How the searches for the next token and for a string's end go on from a place to the next. `x` is the answer.
-use mathlib.Core.Bool.{Bool, true, false, not}
+use mathlib.Core.Bool.{Bool, true, false}
 use mathlib.Core.Path.{◌≡◌, refl, sym, ◌∙◌}
 use mathlib.Core.List.{List, [], ◌∷◌}
 use Prim.Native.Nat.{ℕ, ◌+◌, ◌<◌, ◌≤◌}
@@ -9,10 +9,9 @@ use lib.ListN.{length, drop, get_or, drop_of_length-le, length-drop}
 use borrow.Author.Tests.{eq-eqb, ne_eqb}
 use Rattle.chars.specs.Ascii.{is_blank, is_line_end}
 use Rattle.chars.proofs.Laws.{drop_next}
-use Rattle.lex.specs.declared.Next.{Next}
-use Rattle.lex.specs.declared.Next.TheVariants.{At, Unclosed}
 use Rattle.lex.specs.Blank.{blanks, in_block, next_from, line_from, block_from}
 use Rattle.lex.specs.Quote.{closes, closing, closing_from}
+use Rattle.std.specs.Prelude.{Result, Ok, Err}
 
 drop-after : (t : List ℕ) (i : ℕ) → i + 1 < length t → drop (i + 1) t ≡ get_or t (i + 1) 0 ∷ drop (i + 2) t
 drop-after t i h =
@@ -29,20 +28,20 @@ unfolding blanks
 blanks_blank p b [] e = rw e
 blanks_blank p b (c ∷ s) e = rw e
 
-pub blanks_word : (p b : ℕ) (s : List ℕ) → is_blank b ≡ false → eqb b 47 ≡ false → blanks p (b ∷ s) ≡ At p
+pub blanks_word : (p b : ℕ) (s : List ℕ) → is_blank b ≡ false → eqb b 47 ≡ false → blanks p (b ∷ s) ≡ Ok p
 unfolding blanks
 blanks_word p b [] e f = rw e
 blanks_word p b (c ∷ s) e f = rw (e, f)
 
-block_short : (o p : ℕ) (s : List ℕ) → length s ≤ 1 → in_block o p s ≡ Unclosed o
+block_short : (o p : ℕ) (s : List ℕ) → length s ≤ 1 → in_block o p s ≡ Err o
 unfolding in_block
 block_short o p [] l = refl
 block_short o p (b ∷ []) l = refl
 block_short o p (b ∷ c ∷ s) l = absurd (omega arith)
 
-module _ (t : List ℕ) (i : ℕ) {x : Next} where
+module _ (t : List ℕ) (i : ℕ) {x : Result ℕ ℕ} where
   module _ (at : next_from t i ≡ x) where
-    pub next_end : length t ≤ i → At i ≡ x
+    pub next_end : length t ≤ i → Ok i ≡ x
     unfolding next_from blanks
     next_end h = rw (drop_of_length-le t h) at at
 
@@ -51,11 +50,11 @@ module _ (t : List ℕ) (i : ℕ) {x : Next} where
     next_blank h e f = sym (blanks_blank i _ _ (sym e ∙ f)) ∙ (rw (drop_next t i h) at at)
 
     module _ {r : Bool} (h : i < length t) (e : r ≡ is_blank (get_or t i 0)) (f : r ≡ false) where
-      pub next_word : (get_or t i 0 ≡ 47 → ⊥) → At i ≡ x
+      pub next_word : (get_or t i 0 ≡ 47 → ⊥) → Ok i ≡ x
       unfolding next_from
       next_word g = sym (blanks_word i _ _ (sym e ∙ f) (ne_eqb _ _ g)) ∙ (rw (drop_next t i h) at at)
 
-      pub next_last : length t ≤ i + 1 → At i ≡ x
+      pub next_last : length t ≤ i + 1 → Ok i ≡ x
       unfolding next_from blanks
       next_last l = rw (drop_next t i h, drop_of_length-le t l, sym e ∙ f) at at
 
@@ -68,12 +67,12 @@ module _ (t : List ℕ) (i : ℕ) {x : Next} where
         unfolding next_from block_from blanks
         next_block n g = rw (drop_two t i l, sym e ∙ f, eq-eqb _ _ s, ne_eqb _ _ n, eq-eqb _ _ g) at at
 
-        pub next_slash : (get_or t (i + 1) 0 ≡ 47 → ⊥) → (get_or t (i + 1) 0 ≡ 42 → ⊥) → At i ≡ x
+        pub next_slash : (get_or t (i + 1) 0 ≡ 47 → ⊥) → (get_or t (i + 1) 0 ≡ 42 → ⊥) → Ok i ≡ x
         unfolding next_from blanks
         next_slash n g = rw (drop_two t i l, sym e ∙ f, eq-eqb _ _ s, ne_eqb _ _ n, ne_eqb _ _ g) at at
 
   module _ (at : line_from t i ≡ x) where
-    pub line_stop : length t ≤ i → At i ≡ x
+    pub line_stop : length t ≤ i → Ok i ≡ x
     unfolding line_from blanks
     line_stop h = rw (drop_of_length-le t h) at at
 
@@ -87,7 +86,7 @@ module _ (t : List ℕ) (i : ℕ) {x : Next} where
       line_close f = rw (drop_next t i h, sym e ∙ f) at at
 
   module _ (o : ℕ) (at : block_from t o i ≡ x) where
-    pub block_stop : length t ≤ i + 1 → Unclosed o ≡ x
+    pub block_stop : length t ≤ i + 1 → Err o ≡ x
     unfolding block_from
     block_stop h = sym (block_short o i (drop i t) (simp length-drop (omega arith))) ∙ at
 
@@ -103,23 +102,13 @@ module _ (t : List ℕ) (i : ℕ) {x : Next} where
     unfolding block_from next_from blanks
     block_more h f = rw (drop-after t i h) (rw (drop_two t i h, ne_eqb _ _ f) at at)
 
--- the test for a closing quote
-module _ (before b : ℕ) where
-  pub closes_no : (b ≡ 34 → ⊥) → false ≡ closes before b
-  unfolding closes
-  closes_no e = rw (ne_eqb b 34 e)
-
-  pub closes_by : {r : Bool} → b ≡ 34 → r ≡ not (eqb before 92) → r ≡ closes before b
-  unfolding closes
-  closes_by e f = rw (eq-eqb b 34 e) f
-
-module _ (o before : ℕ) (t : List ℕ) (i : ℕ) {x : Next} (at : closing_from o before t i ≡ x) where
-  pub closing_end : length t ≤ i → Unclosed o ≡ x
+module _ (o before : ℕ) (t : List ℕ) (i : ℕ) {x : Result ℕ ℕ} (at : closing_from o before t i ≡ x) where
+  pub closing_end : length t ≤ i → Err o ≡ x
   unfolding closing_from closing
   closing_end h = rw (drop_of_length-le t h) at at
 
   module _ {r : Bool} (h : i < length t) (e : r ≡ closes before (get_or t i 0)) where
-    pub closing_here : r ≡ true → At i ≡ x
+    pub closing_here : r ≡ true → Ok i ≡ x
     unfolding closing_from closing
     closing_here f = rw (drop_next t i h, sym e ∙ f) at at
 

@@ -1,13 +1,11 @@
 -- What the bytes of a token are: the statement of the law that a token's bytes are those of the text.
-use Rattle.std.specs.Prelude.{true, false, ◌≡◌, List, [], ◌∷◌, ℕ, ◌-◌, ◌+◌, ◌<◌, ◌≤◌, length, take, drop, get_or}
+use Rattle.std.specs.Prelude.{true, false, ◌≡◌, List, [], ◌∷◌, ℕ, ◌-◌, ◌+◌, ◌<◌, ◌≤◌, length, take, drop, get_or, None, Ok, Err}
 use Rattle.chars.specs.Ascii.{is_letter, is_name_byte, is_number_byte, is_digit}
 use Rattle.chars.specs.Run.{every}
 use Rattle.chars.specs.declared.Radix.TheVariants.{Decimal}
 use Rattle.vocabulary.specs.Vocabulary.{keyword_of, spelling, mark_of, mark_bytes}
 use Rattle.vocabulary.specs.declared.Lookup.TheVariants as lookup
-use Rattle.vocabulary.specs.declared.MarkLookup.TheVariants.{NoMark}
 use Rattle.numbers.specs.Number.{number_of}
-use Rattle.numbers.specs.declared.Numeral.TheVariants as numeral
 use Rattle.basics.specs.Limits.{name_limit, string_limit}
 use Rattle.lex.specs.Quote.{closes}
 use Rattle.lex.specs.declared.Cause.{Cause}
@@ -15,6 +13,7 @@ use Rattle.lex.specs.declared.Cause.TheVariants as cause
 use Rattle.lex.specs.declared.Word.{Word}
 use Rattle.lex.specs.declared.Word.TheVariants as word
 use Rattle.lex.specs.declared.Token.{Token}
+use Rattle.numbers.specs.declared.BadNumber.TheVariants.{Malformed, TooWide}
 
 -- the bytes of a text from a token's start to its end
 abbrev pub token_bytes : List ℕ → Token → List ℕ
@@ -62,9 +61,9 @@ pub record Quoted (w : List ℕ) : Type 0 where
 -- a bad word that is too long, or is no number, or is a byte that starts no word
 pub data IllFormed (w : List ℕ) : Type 0 where
   long_name : NameBytes w → name_limit < length w → IllFormed w
-  no_number : is_digit Decimal (get_or w 0 0) ≡ true → every is_number_byte w ≡ true → number_of w ≡ numeral.Malformed → IllFormed w
+  no_number : is_digit Decimal (get_or w 0 0) ≡ true → every is_number_byte w ≡ true → number_of w ≡ (Err Malformed) → IllFormed w
   long_string : StringBytes w → string_limit + 2 < length w → IllFormed w
-  no_word : (b : ℕ) → w ≡ b ∷ [] → is_letter b ≡ false → is_digit Decimal b ≡ false → (b ≡ 34 → ⊥) → mark_of w ≡ NoMark → IllFormed w
+  no_word : (b : ℕ) → w ≡ b ∷ [] → is_letter b ≡ false → is_digit Decimal b ≡ false → (b ≡ 34 → ⊥) → mark_of w ≡ None → IllFormed w
 
 -- a bad word that the text's end leaves open (proofs/Bytes, open_to_end): a string, or a block comment
 pub data LeftOpen (w : List ℕ) : Type 0 where
@@ -75,7 +74,7 @@ pub data LeftOpen (w : List ℕ) : Type 0 where
 abbrev pub Spoilt : Cause → List ℕ → Type 0
 Spoilt cause.Unclosed w = LeftOpen w
 Spoilt cause.Malformed w = IllFormed w
-Spoilt cause.TooWide w = number_of w ≡ numeral.TooWide
+Spoilt cause.TooWide w = number_of w ≡ (Err TooWide)
 Spoilt cause.LeftOut w = keyword_of w ≡ lookup.LeftOut
 
 -- the bytes `w` are those of the word
@@ -83,7 +82,7 @@ abbrev pub Spelt : Word → List ℕ → Type 0
 Spelt word.End w = w ≡ []
 Spelt word.Name w = Named w
 Spelt (word.Keyword k) w = w ≡ spelling k
-Spelt (word.Number n) w = number_of w ≡ numeral.Fits n
+Spelt (word.Number n) w = number_of w ≡ Ok n
 Spelt word.String w = Quoted w
 Spelt (word.Mark m) w = w ≡ mark_bytes m
 Spelt (word.Bad c) w = Spoilt c w

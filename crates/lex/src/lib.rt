@@ -6,21 +6,16 @@ ghost use Rattle.vocabulary.specs.Vocabulary.{mark_of};
 ghost use Rattle.lex.specs.Blank.{next_from};
 ghost use Rattle.lex.specs.Quote.{closes, closing_from};
 ghost use Rattle.lex.specs.Token.{keyword_word, name_word, number_word, name_token, number_token, string_token, longer, mark_token, token_from, token_at};
-ghost use Rattle.lex.specs.Words.{cause_number, refused, judged, first_bad, words_verdict, verdict_numbers, words_numbers};
+ghost use Rattle.basics.specs.Judged.{rule_number, verdict};
+ghost use Rattle.lex.specs.Words.{cause_number, scanned, judged, first_bad, words_verdict, verdict_numbers, words_numbers};
 
+use basics::{Refusal, Rule};
 use chars::{Class, Radix};
-use numbers::Numeral;
-use vocabulary::{Keyword, Lookup, Mark, MarkLookup};
-
-// Where a search ended: at a place, or in a comment or string that is not closed and starts at a place.
-#[derive(Clone, Copy)]
-pub enum Next {
-    At(usize),
-    Unclosed(usize),
-}
+use numbers::BadNumber;
+use vocabulary::{Keyword, Lookup, Mark};
 
 // Why a word is bad.
-#[derive(Clone, Copy)]
+#[derive(Clone, Copy, PartialEq, Eq)]
 pub enum Cause {
     Unclosed,
     Malformed,
@@ -29,7 +24,7 @@ pub enum Cause {
 }
 
 // A word in document 01's sense, and the end of text.
-#[derive(Clone, Copy)]
+#[derive(Clone, Copy, PartialEq, Eq)]
 pub enum Word {
     End,
     Name,
@@ -41,42 +36,22 @@ pub enum Word {
 }
 
 // A word with its first byte's place and the place past its last byte.
-#[derive(Clone, Copy)]
+#[derive(Clone, Copy, PartialEq, Eq)]
 pub struct Token {
     pub word: Word,
     pub start: usize,
     pub end: usize,
 }
 
-// A place of a text: a byte, counted from 0.
-#[derive(Clone, Copy)]
-pub struct Place {
-    pub at: usize,
-}
-
-// Whether a text is accepted so far, or its first refusal with its number.
-#[derive(Clone, Copy)]
-pub enum Verdict {
-    Accepted,
-    Refused(u8, Place),
-}
-
-// What a token means for the text it stands in.
-#[derive(Clone, Copy)]
-pub enum Scanned {
-    Settled(Verdict),
-    GoOn,
-}
-
 // The place of the next word, past blanks and comments; or of a comment that is not closed.
-fn next_start(text: &[u8], from: usize) -> Next
+fn next_start(text: &[u8], from: usize) -> Result<usize, usize>
     ensures { result ≡ next_from text.now from }
 {
     let n = text.len();
     let mut i = from;
     'blanks: loop {
         if i >= n {
-            break 'blanks Next::At(i);
+            break 'blanks Ok(i);
         }
         let b = text[i];
         if chars::is_blank(b) {
@@ -84,17 +59,17 @@ fn next_start(text: &[u8], from: usize) -> Next
             continue 'blanks;
         }
         if b != b'/' {
-            break 'blanks Next::At(i);
+            break 'blanks Ok(i);
         }
         if i + 1 >= n {
-            break 'blanks Next::At(i);
+            break 'blanks Ok(i);
         }
         let b2 = text[i + 1];
         if b2 == b'/' {
             i += 2;
             'line: loop {
                 if i >= n {
-                    break 'blanks Next::At(i);
+                    break 'blanks Ok(i);
                 }
                 let c = text[i];
                 i += 1;
@@ -107,7 +82,7 @@ fn next_start(text: &[u8], from: usize) -> Next
             i += 2;
             'block: loop {
                 if i + 1 >= n {
-                    break 'blanks Next::Unclosed(begin);
+                    break 'blanks Err(begin);
                 }
                 if text[i] != b'*' {
                     i += 1;
@@ -120,7 +95,7 @@ fn next_start(text: &[u8], from: usize) -> Next
                 i += 1;
             }
         } else {
-            break 'blanks Next::At(i);
+            break 'blanks Ok(i);
         }
     }
 }
@@ -157,13 +132,13 @@ fn name_token(text: &[u8], i: usize) -> Token
     }
 }
 
-fn number_word(number: Numeral) -> Word
+fn number_word(number: Result<u64, BadNumber>) -> Word
     ensures { result ≡ number_word number }
 {
     match number {
-        Numeral::Fits(n) => Word::Number(n),
-        Numeral::Malformed => Word::Bad(Cause::Malformed),
-        Numeral::TooWide => Word::Bad(Cause::TooWide),
+        Ok(n) => Word::Number(n),
+        Err(BadNumber::Malformed) => Word::Bad(Cause::Malformed),
+        Err(BadNumber::TooWide) => Word::Bad(Cause::TooWide),
     }
 }
 
@@ -180,33 +155,26 @@ fn number_token(text: &[u8], i: usize) -> Token
 }
 
 // Whether a byte closes a string, with the byte before it.
+#[tactic(auto, unfolding(crate::specs::Quote::closes))]
 fn closes_string(before: u8, b: u8) -> bool
     ensures { result ≡ closes before b }
 {
-    if b != b'"' {
-        return false;
-    }
-    before != b'\\'
+    b == b'"' && before != b'\\'
 }
 
-// The place of the quote that closes the string opened at `quote`.
-fn string_close(text: &[u8], quote: usize) -> Next
+// The place of the quote that closes the string opened at `quote`; or that place, where none does.
+fn string_close(text: &[u8], quote: usize) -> Result<usize, usize>
     requires { quote < length text.now }
     ensures { result ≡ closing_from quote 34 text.now (quote + 1) }
 {
     let mut before = b'"';
-    let mut i = quote + 1;
-    loop {
-        if i >= text.len() {
-            break Next::Unclosed(quote);
+    for i in quote + 1..text.len() {
+        if closes_string(before, text[i]) {
+            return Ok(i);
         }
-        let b = text[i];
-        if closes_string(before, b) {
-            break Next::At(i);
-        }
-        before = b;
-        i += 1;
+        before = text[i];
     }
+    Err(quote)
 }
 
 fn string_token(text: &[u8], i: usize) -> Token
@@ -214,7 +182,7 @@ fn string_token(text: &[u8], i: usize) -> Token
     ensures { result ≡ string_token i (drop i text.now) }
 {
     match string_close(text, i) {
-        Next::At(q) => {
+        Ok(q) => {
             if q - (i + 1) > basics::STRING_LIMIT {
                 return Token {
                     word: Word::Bad(Cause::Malformed),
@@ -228,7 +196,7 @@ fn string_token(text: &[u8], i: usize) -> Token
                 end: q + 1,
             }
         }
-        Next::Unclosed(_) => Token {
+        Err(_) => Token {
             word: Word::Bad(Cause::Unclosed),
             start: i,
             end: text.len(),
@@ -237,16 +205,14 @@ fn string_token(text: &[u8], i: usize) -> Token
 }
 
 // The longest mark that stands at `i`.
-fn mark_at(text: &[u8], i: usize) -> MarkLookup
+fn mark_at(text: &[u8], i: usize) -> Option<Mark>
     requires { i < length text.now }
     ensures { result ≡ longer (mark_of (take 2 (drop i text.now))) (mark_of (take 1 (drop i text.now))) }
 {
     let first = text[i];
     if i + 1 < text.len() {
-        if let MarkLookup::IsMark(m) = vocabulary::double_mark(first, text[i + 1]) {
-            return MarkLookup::IsMark(m);
-        }
-        return vocabulary::single_mark(first);
+        let double = vocabulary::double_mark(first, text[i + 1]);
+        return double.or(vocabulary::single_mark(first));
     }
     vocabulary::single_mark(first)
 }
@@ -256,12 +222,12 @@ fn mark_token(text: &[u8], i: usize) -> Token
     ensures { result ≡ mark_token i (drop i text.now) }
 {
     match mark_at(text, i) {
-        MarkLookup::IsMark(m) => Token {
+        Some(m) => Token {
             word: Word::Mark(m),
             start: i,
             end: i + vocabulary::mark_length(m),
         },
-        MarkLookup::NoMark => Token {
+        None => Token {
             word: Word::Bad(Cause::Malformed),
             start: i,
             end: i + 1,
@@ -298,8 +264,8 @@ pub fn next_token(text: &[u8], at: usize) -> Token
     ensures { result ≡ token_at text.now at }
 {
     match next_start(text, at) {
-        Next::At(i) => token_from(text, i),
-        Next::Unclosed(o) => Token {
+        Ok(i) => token_from(text, i),
+        Err(o) => Token {
             word: Word::Bad(Cause::Unclosed),
             start: o,
             end: text.len(),
@@ -307,65 +273,51 @@ pub fn next_token(text: &[u8], at: usize) -> Token
     }
 }
 
-fn cause_number(cause: Cause) -> u8
-    ensures { result ≡ cause_number cause }
-{
-    match cause {
-        Cause::Unclosed => 2,
-        Cause::Malformed => 2,
-        Cause::TooWide => 2,
-        Cause::LeftOut => 4,
-    }
-}
-
-// A refusal with its number at a place.
-pub fn refuse(number: u8, at: usize) -> Verdict
-    ensures answer { result ≡ refused number at }
-    ensures numbers { verdict_numbers result ≡ number ∷ at ∷ [] }
-{
-    Verdict::Refused(number, Place { at })
-}
-
-fn judge(token: Token) -> Scanned
-    ensures { result ≡ judged token }
-{
-    let word = token.word;
-    match word {
-        Word::End => Scanned::Settled(Verdict::Accepted),
-        Word::Bad(cause) => Scanned::Settled(refuse(cause_number(cause), token.start)),
-        Word::Name => Scanned::GoOn,
-        Word::Keyword(_) => Scanned::GoOn,
-        Word::Number(_) => Scanned::GoOn,
-        Word::String => Scanned::GoOn,
-        Word::Mark(_) => Scanned::GoOn,
-    }
-}
-
-// The first bad word of a text.
-fn first_bad(text: &[u8]) -> Verdict
-    ensures { result ≡ first_bad (length text.now + 1) text.now 0 }
-{
-    let mut at = 0;
-    loop {
-        let token = next_token(text, at);
-        match judge(token) {
-            Scanned::Settled(verdict) => {
-                return verdict;
-            }
-            Scanned::GoOn => {
-                at = token.end;
-            }
+impl Cause {
+    // The rule that a bad word breaks.
+    fn rule(self) -> Rule
+        ensures { rule_number result ≡ cause_number self }
+    {
+        match self {
+            Cause::Unclosed | Cause::Malformed | Cause::TooWide => Rule::BadWord,
+            Cause::LeftOut => Rule::LeftOutKeyword,
         }
     }
 }
 
+// Whether a token ends the text; or the refusal of a bad word.
+fn judge(token: Token) -> Result<bool, Refusal>
+    ensures { scanned result ≡ judged token }
+{
+    match token.word {
+        Word::End => Ok(true),
+        Word::Bad(cause) => Err(cause.rule().at(token.start)),
+        Word::Name | Word::Keyword(_) | Word::Number(_) | Word::String | Word::Mark(_) => Ok(false),
+    }
+}
+
+// The first bad word of a text.
+fn first_bad(text: &[u8]) -> Result<(), Refusal>
+    ensures { verdict result ≡ first_bad (length text.now + 1) text.now 0 }
+{
+    let mut at = 0;
+    loop {
+        let token = next_token(text, at);
+        let ends = judge(token)?;
+        if ends {
+            return Ok(());
+        }
+        at = token.end;
+    }
+}
+
 // The first refusal of a text by 1, 2 and 4, or none.
-pub fn first_refusal(text: &[u8]) -> Verdict
-    ensures answer { result ≡ words_verdict text.now }
-    ensures numbers { verdict_numbers result ≡ words_numbers text.now }
+pub fn first_refusal(text: &[u8]) -> Result<(), Refusal>
+    ensures answer { verdict result ≡ words_verdict text.now }
+    ensures numbers { verdict_numbers (verdict result) ≡ words_numbers text.now }
 {
     if text.len() > basics::TEXT_LIMIT {
-        return refuse(1, 0);
+        return Err(Rule::TextLength.at(0));
     }
     first_bad(text)
 }

@@ -1,18 +1,13 @@
 -- Laws of the loop over a text: what is left to pour at each place that it passes.
-use mathlib.Core.Path.{refl}
 use mathlib.Core.List.{List, [], ◌∷◌}
 use Prim.Native.Nat.{ℕ, ◌+◌, ◌<◌, ◌≤◌}
 use lib.ListN.{length, drop, get_or, drop_of_length-le}
 use Rattle.chars.proofs.Laws.{drop_next}
 use Rattle.lines.specs.declared.Sink.{Sink}
 use Rattle.lines.specs.Sinks.{Pours}
-use Rattle.lines.proofs.Pouring.{Pouring, pouring_start, pouring_on, pouring_end}
+use Rattle.lines.proofs.Pouring.{Pouring, pouring_on, pouring_end}
 
 module _ {room : ℕ} {before : List ℕ} {start : Sink} where
-  -- a text
-  pub bytes_start : (text : List ℕ) → Pouring room before before start text start (drop 0 text)
-  bytes_start text = pouring_start refl
-
   module _ (text : List ℕ) (i : ℕ) {x out : List ℕ} {s : Sink} (p : Pouring room before out start x s (drop i text)) where
     pub bytes_end : length text ≤ i → Pours room before out start x s
     bytes_end h = pouring_end (rw (drop_of_length-le text h) at p)

@@ -1,11 +1,7 @@
--- Laws of pouring: one byte, bytes one after another, and what a loop still has to pour.
-use mathlib.Core.Bool.{true, false}
+-- Laws of pouring: bytes one after another, and what a loop still has to pour.
 use mathlib.Core.Path.{◌≡◌, refl, sym, ap, ◌∙◌}
 use mathlib.Core.List.{List, [], ◌∷◌, ◌++◌}
-use Prim.Native.Nat.{ℕ, ◌+◌, ◌<◌, ◌≤◌}
-use native.Mathlib.Numerals.{add-one}
-use lib.ListN.{set}
-use borrow.Author.Tests.{le-leb, lt-leb}
+use Prim.Native.Nat.{ℕ}
 use Rattle.lines.specs.declared.Sink.{Sink}
 use Rattle.lines.specs.Sinks.{behind, poured, with_byte, filled, Pours}
 
@@ -20,6 +16,28 @@ module _ (room : ℕ) where
   unfolding poured filled
   filled-append s out [] ys = refl
   filled-append s out (x ∷ xs) ys = filled-append (behind room s) (with_byte room s out x) xs ys
+
+-- no byte, and one byte more
+module _ (room : ℕ) (s : Sink) where
+  pub poured_none : poured room s [] ≡ s
+  unfolding poured
+  poured_none = refl
+
+  pub filled_none : (out : List ℕ) → filled room s out [] ≡ out
+  unfolding filled
+  filled_none out = refl
+
+  pub poured_next : (b : ℕ) (bs : List ℕ) → poured room s (b ∷ bs) ≡ poured room (behind room s) bs
+  unfolding poured
+  poured_next b bs = refl
+
+  pub filled_next : (b : ℕ) (bs out : List ℕ) → filled room s out (b ∷ bs) ≡ filled room (behind room s) (with_byte room s out b) bs
+  unfolding filled
+  filled_next b bs out = refl
+
+pub ruleset appends = (poured-append, filled-append)
+
+pub ruleset pouring = (poured-append, filled-append, poured_none, filled_none, poured_next, filled_next)
 
 module _ {room : ℕ} where
   pub pours_none : {out : List ℕ} {s : Sink} → Pours room out out s [] s
@@ -60,18 +78,3 @@ module _ {room : ℕ} {before : List ℕ} {start : Sink} {all : List ℕ} where
 
 pub pouring_start : {room : ℕ} {before : List ℕ} {start : Sink} {all left : List ℕ} → left ≡ all → Pouring room before before start all start left
 pouring_start {room} {before} {start} e = record { sink = ap (λ (l : List ℕ). poured room start l) e; out = ap (λ (l : List ℕ). filled room start before l) e }
-
--- one byte
-module _ (room : ℕ) (out : List ℕ) (s : Sink) (b : ℕ) where
-  pub byte_full : s.full ≡ true → Pours room out out s (b ∷ []) (record { at = s.at; full = true })
-  unfolding poured filled behind with_byte
-  byte_full e = record { sink = rw e; out = rw e }
-
-  module _ (e : s.full ≡ false) where
-    pub byte_over : room ≤ s.at → Pours room out out s (b ∷ []) (record { at = s.at; full = true })
-    unfolding poured filled behind with_byte
-    byte_over h = record { sink = rw (e, le-leb room s.at h); out = rw (e, le-leb room s.at h) }
-
-    pub byte_fits : {now : List ℕ} → s.at < room → now ≡ set out s.at b → Pours room out now s (b ∷ []) (record { at = s.at + 1; full = false })
-    unfolding poured filled behind with_byte
-    byte_fits h f = record { sink = rw (add-one, e, lt-leb room s.at h); out = rw (e, lt-leb room s.at h) f }

@@ -1,5 +1,5 @@
 -- The numbers, words and lines of a listing (document 01, "The listing").
-use Rattle.std.specs.Prelude.{List, [], ◌∷◌, ◌++◌, ℕ, zero, suc, ◌+◌, ◌-◌, ◌/◌, ◌%◌, eqb, ltb}
+use Rattle.std.specs.Prelude.{List, [], ◌∷◌, ◌++◌, ℕ, zero, suc, ◌+◌, ◌-◌, ◌/◌, ◌%◌, eqb, ltb, Option, Some, None}
 use Prim.Native.Char.{code}
 use Rattle.chars.specs.Ascii.{bytes}
 use Rattle.std.specs.Prelude.{if◌then◌else◌}
@@ -7,8 +7,6 @@ use Rattle.fields.specs.Codes.{access_code, read_code, write_code}
 use Rattle.fields.specs.declared.AccessRight.TheVariants as access
 use Rattle.fields.specs.declared.ReadEffect.TheVariants as onread
 use Rattle.fields.specs.declared.WriteEffect.TheVariants as onwrite
-use Rattle.basics.specs.declared.Given.{Given}
-use Rattle.basics.specs.declared.Given.TheVariants.{Nothing, Number}
 use Rattle.fields.specs.declared.FieldAt.{FieldAt}
 use Rattle.fields.specs.declared.FieldType.{FieldType}
 
@@ -61,9 +59,9 @@ write_word n =
     if ltb n (write_code onwrite.Wzs) then on_one_word n else
     on_zero_word n
 
-abbrev pub reset_text : Given → List ℕ
-reset_text Nothing = bytes "none"
-reset_text (Number n) = hex n
+abbrev pub reset_text : Option ℕ → List ℕ
+reset_text None = bytes "none"
+reset_text (Some n) = hex n
 
 -- a line: a key with its `=`, a value, LF
 unfoldable pub line : List ℕ → List ℕ → List ℕ

@@ -3,10 +3,9 @@
 
 ghost use Rattle.std.specs.Prelude.{◌≡◌, [], ◌∷◌, ◌≤◌, ◌<◌};
 ghost use Rattle.chars.specs.Ascii.{bytes};
-ghost use Rattle.lines.specs.Text.{digit_byte, digits, decimal, hex, access_word, read_word, on_one_word, on_zero_word, write_word, reset_text, line, bits_text, value_lines};
+ghost use Rattle.lines.specs.Text.{digit_byte, digits, decimal, hex, access_word, read_word, write_word, reset_text, line, bits_text, value_lines};
 ghost use Rattle.lines.specs.Sinks.{Pours};
 
-use basics::Given;
 use fields::{FieldAt, FieldType, Offset};
 
 // How many bytes were poured into an output, and whether more were than it has room for.
@@ -17,22 +16,14 @@ pub struct Sink {
 }
 
 // Pours a byte: into the output as far as it goes, and nowhere past the room.
+#[tactic(auto, unfolding(crate::specs::Sinks::behind, crate::specs::Sinks::poured, crate::specs::Sinks::with_byte, crate::specs::Sinks::filled))]
 pub fn put_byte(out: &mut [u8], room: usize, sink: Sink, byte: u8) -> Sink
     ensures { Pours room out.old out.new sink (byte ∷ []) result }
 {
-    if sink.full {
-        return Sink {
-            at: sink.at,
-            full: true,
-        };
-    }
-    if room <= sink.at {
-        return Sink {
-            at: sink.at,
-            full: true,
-        };
-    }
     let at = sink.at;
+    if sink.full || room <= at {
+        return Sink { at, full: true };
+    }
     if at < out.len() {
         out[at] = byte;
     }
@@ -46,34 +37,32 @@ pub fn put_bytes(out: &mut [u8], room: usize, start: Sink, text: &[u8]) -> Sink
     ensures { Pours room out.old out.new start text.now result }
 {
     let mut sink = start;
-    let mut i = 0;
-    while i < text.len() {
-        sink = put_byte(out, room, sink, text[i]);
-        i += 1;
+    for byte in text {
+        sink = put_byte(out, room, sink, *byte);
     }
     sink
 }
 
+#[tactic(auto, unfolding(crate::specs::Text::digit_byte))]
 fn digit_byte(digit: u64) -> u8
     requires { digit < 16 }
     ensures { result ≡ digit_byte digit }
 {
     if digit < 10 {
-        return b'0' + digit as u8;
+        b'0' + digit as u8
+    } else {
+        b'a' + (digit - 10) as u8
     }
-    b'a' + (digit - 10) as u8
 }
 
 // Pours the digits of a number, the highest first.
+#[tactic(auto, using(crate::proofs::Pouring::appends), unfolding(crate::specs::Text::digits))]
 fn put_digits(out: &mut [u8], room: usize, start: Sink, base: u64, left: u64, n: u64) -> Sink
     requires { (2 ≤ base) × (base ≤ 16) }
     ensures { Pours room out.old out.new start (digits base left n) result }
 {
     let digit = digit_byte(n % base);
-    if left == 0 {
-        return put_byte(out, room, start, digit);
-    }
-    if n < base {
+    if left == 0 || n < base {
         return put_byte(out, room, start, digit);
     }
     let sink = put_digits(out, room, start, base, left - 1, n / base);
@@ -86,6 +75,7 @@ pub fn put_decimal(out: &mut [u8], room: usize, sink: Sink, n: u64) -> Sink
     put_digits(out, room, sink, 10, 19, n)
 }
 
+#[tactic(auto, unfolding(crate::specs::Sinks::poured, crate::specs::Sinks::filled))]
 pub fn put_hex(out: &mut [u8], room: usize, start: Sink, n: u64) -> Sink
     ensures { Pours room out.old out.new start (hex n) result }
 {
@@ -93,6 +83,7 @@ pub fn put_hex(out: &mut [u8], room: usize, start: Sink, n: u64) -> Sink
     put_digits(out, room, sink, 16, 15, n)
 }
 
+#[tactic(auto, unfolding(crate::specs::Text::access_word))]
 fn put_access(out: &mut [u8], room: usize, sink: Sink, code: u64) -> Sink
     ensures { Pours room out.old out.new sink (access_word code) result }
 {
@@ -104,6 +95,7 @@ fn put_access(out: &mut [u8], room: usize, sink: Sink, code: u64) -> Sink
     }
 }
 
+#[tactic(auto, unfolding(crate::specs::Text::read_word))]
 fn put_read_effect(out: &mut [u8], room: usize, sink: Sink, code: u64) -> Sink
     ensures { Pours room out.old out.new sink (read_word code) result }
 {
@@ -114,22 +106,15 @@ fn put_read_effect(out: &mut [u8], room: usize, sink: Sink, code: u64) -> Sink
     }
 }
 
-// The effects of a 1.
-fn put_on_one(out: &mut [u8], room: usize, sink: Sink, code: u64) -> Sink
-    ensures { Pours room out.old out.new sink (on_one_word code) result }
+#[tactic(auto, unfolding(crate::specs::Text::write_word, crate::specs::Text::on_one_word, crate::specs::Text::on_zero_word))]
+fn put_write_effect(out: &mut [u8], room: usize, sink: Sink, code: u64) -> Sink
+    ensures { Pours room out.old out.new sink (write_word code) result }
 {
     match code {
+        0 => put_bytes(out, room, sink, b"none"),
         1 => put_bytes(out, room, sink, b"woset"),
         2 => put_bytes(out, room, sink, b"woclr"),
-        _ => put_bytes(out, room, sink, b"wot"),
-    }
-}
-
-// The effects of a 0, and those of any word.
-fn put_on_zero(out: &mut [u8], room: usize, sink: Sink, code: u64) -> Sink
-    ensures { Pours room out.old out.new sink (on_zero_word code) result }
-{
-    match code {
+        3 => put_bytes(out, room, sink, b"wot"),
         4 => put_bytes(out, room, sink, b"wzs"),
         5 => put_bytes(out, room, sink, b"wzc"),
         6 => put_bytes(out, room, sink, b"wzt"),
@@ -138,24 +123,12 @@ fn put_on_zero(out: &mut [u8], room: usize, sink: Sink, code: u64) -> Sink
     }
 }
 
-fn put_write_effect(out: &mut [u8], room: usize, sink: Sink, code: u64) -> Sink
-    ensures { Pours room out.old out.new sink (write_word code) result }
-{
-    if code == 0 {
-        return put_bytes(out, room, sink, b"none");
-    }
-    if code < 4 {
-        return put_on_one(out, room, sink, code);
-    }
-    put_on_zero(out, room, sink, code)
-}
-
-fn put_reset(out: &mut [u8], room: usize, sink: Sink, reset: Given) -> Sink
+fn put_reset(out: &mut [u8], room: usize, sink: Sink, reset: Option<u64>) -> Sink
     ensures { Pours room out.old out.new sink (reset_text reset) result }
 {
     match reset {
-        Given::Nothing => put_bytes(out, room, sink, b"none"),
-        Given::Number(n) => put_hex(out, room, sink, n),
+        None => put_bytes(out, room, sink, b"none"),
+        Some(n) => put_hex(out, room, sink, n),
     }
 }
 
@@ -165,6 +138,7 @@ pub fn put_line_end(out: &mut [u8], room: usize, sink: Sink) -> Sink
     put_byte(out, room, sink, b'\n')
 }
 
+#[tactic(auto, using(crate::proofs::Lines::parts))]
 pub fn put_decimal_line(out: &mut [u8], room: usize, start: Sink, key: &[u8], n: u64) -> Sink
     ensures { Pours room out.old out.new start (line key.now (decimal n)) result }
 {
@@ -173,6 +147,7 @@ pub fn put_decimal_line(out: &mut [u8], room: usize, start: Sink, key: &[u8], n:
     put_line_end(out, room, sink)
 }
 
+#[tactic(auto, using(crate::proofs::Lines::parts))]
 pub fn put_address_line(out: &mut [u8], room: usize, start: Sink, address: Offset) -> Sink
     ensures { Pours room out.old out.new start (line (bytes "at=") (hex address.0)) result }
 {
@@ -181,6 +156,7 @@ pub fn put_address_line(out: &mut [u8], room: usize, start: Sink, address: Offse
     put_line_end(out, room, sink)
 }
 
+#[tactic(auto, using(crate::proofs::Lines::parts))]
 pub fn put_bits_line(out: &mut [u8], room: usize, start: Sink, field: FieldAt) -> Sink
     ensures { Pours room out.old out.new start (line (bytes "bits=") (bits_text field)) result }
 {
@@ -191,6 +167,7 @@ pub fn put_bits_line(out: &mut [u8], room: usize, start: Sink, field: FieldAt) -
     put_line_end(out, room, sink)
 }
 
+#[tactic(auto, using(crate::proofs::Lines::parts))]
 fn put_access_line(out: &mut [u8], room: usize, start: Sink, key: &[u8], code: u64) -> Sink
     ensures { Pours room out.old out.new start (line key.now (access_word code)) result }
 {
@@ -199,6 +176,7 @@ fn put_access_line(out: &mut [u8], room: usize, start: Sink, key: &[u8], code: u
     put_line_end(out, room, sink)
 }
 
+#[tactic(auto, using(crate::proofs::Lines::parts))]
 fn put_read_line(out: &mut [u8], room: usize, start: Sink, code: u64) -> Sink
     ensures { Pours room out.old out.new start (line (bytes "onread=") (read_word code)) result }
 {
@@ -207,6 +185,7 @@ fn put_read_line(out: &mut [u8], room: usize, start: Sink, code: u64) -> Sink
     put_line_end(out, room, sink)
 }
 
+#[tactic(auto, using(crate::proofs::Lines::parts))]
 fn put_write_line(out: &mut [u8], room: usize, start: Sink, code: u64) -> Sink
     ensures { Pours room out.old out.new start (line (bytes "onwrite=") (write_word code)) result }
 {
@@ -215,7 +194,8 @@ fn put_write_line(out: &mut [u8], room: usize, start: Sink, code: u64) -> Sink
     put_line_end(out, room, sink)
 }
 
-fn put_reset_line(out: &mut [u8], room: usize, start: Sink, reset: Given) -> Sink
+#[tactic(auto, using(crate::proofs::Lines::parts))]
+fn put_reset_line(out: &mut [u8], room: usize, start: Sink, reset: Option<u64>) -> Sink
     ensures { Pours room out.old out.new start (line (bytes "reset=") (reset_text reset)) result }
 {
     let mut sink = put_bytes(out, room, start, b"reset=");
@@ -224,6 +204,7 @@ fn put_reset_line(out: &mut [u8], room: usize, start: Sink, reset: Given) -> Sin
 }
 
 // The lines of a field's access, effects and reset.
+#[tactic(auto, using(crate::proofs::Pouring::appends), unfolding(crate::specs::Text::value_lines))]
 pub fn put_value_lines(out: &mut [u8], room: usize, start: Sink, values: FieldType) -> Sink
     ensures { Pours room out.old out.new start (value_lines values) result }
 {

@@ -14,11 +14,10 @@ use Rattle.lines.specs.Sinks.{behind, poured, with_byte, filled, Pours}
 use Rattle.rows.specs.Rows.{Tables}
 use Rattle.rows.specs.Lawful.{lawful}
 use Rattle.rows.specs.Reading.{rows_in}
-use Rattle.listing.specs.declared.Listed.{Listed}
-use Rattle.listing.specs.declared.Listed.TheVariants.{Refused, Written}
 use Rattle.listing.specs.Listing.{listing_of, listed, listed_numbers, listing_numbers}
 use Rattle.listing.specs.Bounds.{AllBounded}
 use Rattle.listing.proofs.Bounds.{lawful_bounded}
+use Rattle.basics.specs.Judged.{Outcome, gave, barred}
 
 abbrev sink_at : ℕ → Sink
 sink_at n = record { at = n; full = false }
@@ -79,18 +78,18 @@ module _ (room : ℕ) where
           ap (λ (s : Sink). (poured room s bs).full) (behind-fits at m) ∙ rest (omega arith) (omega arith)
 
 -- an answer in numbers
-pub listed_numbers_lem : (room : ℕ) (t : Tables) {r : Listed} → r ≡ listed room t → listed_numbers r ≡ listing_numbers room t
+pub listed_numbers_lem : (room : ℕ) (t : Tables) {r : Outcome ℕ} → r ≡ listed room t → listed_numbers r ≡ listing_numbers room t
 unfolding listed listing_numbers
 listed_numbers_lem room t e = ap listed_numbers e ∙ by (not (lawful t)) (ltb room (length (listing_of (rows_in t))))
   where
-    by : (a b : Bool) → let n = length (listing_of (rows_in t)) in listed_numbers (if a then Refused 24 else if b then Refused 22 else Written n) ≡ (if a then 24 ∷ 0 ∷ 0 ∷ [] else if b then 22 ∷ 0 ∷ 0 ∷ [] else 0 ∷ 0 ∷ n ∷ [])
+    by : (a b : Bool) → let n = length (listing_of (rows_in t)) in listed_numbers (if a then barred 24 else if b then barred 22 else gave n) ≡ (if a then 24 ∷ 0 ∷ 0 ∷ [] else if b then 22 ∷ 0 ∷ 0 ∷ [] else 0 ∷ 0 ∷ n ∷ [])
     by true b = refl
     by false true = refl
     by false false = refl
 
 -- the answers
 module _ (t : Tables) {r : Bool} (e : r ≡ lawful t) where
-  pub list_unlawful : (room : ℕ) → not r ≡ true → Refused 24 ≡ listed room t
+  pub list_unlawful : (room : ℕ) → not r ≡ true → barred 24 ≡ listed room t
   unfolding listed
   list_unlawful room y = rw (sym e ∙ not-true r y)
 
@@ -118,7 +117,7 @@ module _ (t : Tables) {r : Bool} (e : r ≡ lawful t) where
             let m : room < 0 + length (listing_of (rows_in t)) = omega arith in
             sym (ap (λ (s : Sink). s.full) p.sink ∙ poured-over room 0 (listing_of (rows_in t)) (omega arith) m) ∙ f
 
-    pub list_long : measured.full ≡ true → Refused 22 ≡ listed room t
+    pub list_long : measured.full ≡ true → barred 22 ≡ listed room t
     unfolding listed
     list_long f = rw (sym e ∙ not-false r y, too_long f)
 
@@ -131,7 +130,7 @@ module _ (t : Tables) {r : Bool} (e : r ≡ lawful t) where
           let n : 0 + length (listing_of (rows_in t)) ≡ length (listing_of (rows_in t)) = omega arith in
           ap (λ (s : Sink). s.at) (w.sink ∙ poured-fits room 0 (listing_of (rows_in t)) (rw n short)) ∙ n
 
-      pub list_written : room ≡ length out → (Written written.at ≡ listed room t) × (now ≡ listing_of (rows_in t) ++ drop written.at out)
+      pub list_written : room ≡ length out → (gave written.at ≡ listed room t) × (now ≡ listing_of (rows_in t) ++ drop written.at out)
       unfolding listed
       list_written n =
           let l : length (listing_of (rows_in t)) ≤ length out = rw (← n) short in (

@@ -1,17 +1,16 @@
 -- The numbers of lawful rows are small.
 use mathlib.Core.Bool.{true}
-use mathlib.Core.Path.{◌≡◌, refl, sym, subst}
+use mathlib.Core.Path.{◌≡◌}
 use mathlib.Core.List.{List}
 use Prim.Native.Nat.{ℕ, ◌+◌, ◌/◌, ◌≤◌}
 use native.Mathlib.Omega.{arith}
 use lib.Dec.{leb, ltb}
 use lib.ListN.{length}
 use borrow.Author.Tests.{leb-true}
-use Rattle.basics.specs.Limits.{nest_limit, field_limit, field_row_width, index_bound}
+use Rattle.basics.specs.Limits.{nest_limit, field_limit, field_row_width}
 use Rattle.chars.proofs.Laws.{and_left, and_right}
 use Rattle.rows.specs.Rows.{Tables}
 use Rattle.rows.specs.Lawful.{register_row, is_placed, is_run, is_path, is_register_row, are_whole, lawful}
-use Rattle.rows.specs.declared.RegisterRow.{RegisterRow}
 use Rattle.rows.proofs.Registers.{row_fits, few_registers, few_fields}
 use Rattle.rows.proofs.Each.{row_first, register_each}
 use Rattle.listing.specs.Bounds.{Bounded, AllBounded}
@@ -30,7 +29,7 @@ module _ (t : Tables) (all i first : ℕ) (e : is_register_row t all i first ≡
   row_bounded : all ≤ field_limit → Bounded t.registers i
   row_bounded h =
       let f = row_first t all i first e in
-      let l : first + (register_row t.registers i).count ≤ all = row_fits t all i first {r = true} {row = register_row t.registers i} (sym e) refl refl in
+      let l : first + (register_row t.registers i).count ≤ all = row_fits t all i first e in
       record { depth = row_depth; run = omega arith }
 
 pub lawful_bounded : (t : Tables) → lawful t ≡ true → AllBounded t.registers
@@ -38,18 +37,8 @@ unfolding lawful
 lawful_bounded t e =
     let w : are_whole (length t.registers) (length t.paths) (length t.fields) (length t.labels) ≡ true =
     and_left (are_whole (length t.registers) (length t.paths) (length t.fields) (length t.labels)) _ e in
-    let f : length t.fields / field_row_width ≤ field_limit = few_fields (length t.registers) (length t.paths) (length t.fields) (length t.labels) {r = true} (sym w) refl in
+    let f : length t.fields / field_row_width ≤ field_limit = few_fields (length t.registers) (length t.paths) (length t.fields) (length t.labels) w in
     record {
-      few = few_registers (length t.registers) (length t.paths) (length t.fields) (length t.labels) {r = true} (sym w) refl;
+      few = few_registers (length t.registers) (length t.paths) (length t.fields) (length t.labels) w;
       each = λ i h. row_bounded t (length t.fields / field_row_width) i (register_row t.registers i).first (register_each t e i h) f;
     }
-
--- what the walk over a register asks
-module _ (registers : List ℕ) (i : ℕ) {row : RegisterRow} (e : row ≡ register_row registers i) where
-  pub depth_fits : (register_row registers i).depth ≤ nest_limit → row.depth ≤ nest_limit
-  depth_fits h = subst (λ (x : RegisterRow). x.depth ≤ nest_limit) (sym e) h
-
-  pub run_fits : Bounded registers i → row.first + row.count ≤ index_bound
-  run_fits b =
-      let l : row.first + row.count ≤ field_limit = subst (λ (x : RegisterRow). x.first + x.count ≤ field_limit) (sym e) b.run in
-      omega arith

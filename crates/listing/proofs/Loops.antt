@@ -1,5 +1,5 @@
 -- Laws of the loops: what is left to pour at each place that they pass.
-use mathlib.Core.Path.{◌≡◌, ap, ◌∙◌}
+use mathlib.Core.Path.{◌≡◌}
 use mathlib.Core.List.{List, [], ◌∷◌}
 use Prim.Native.Nat.{ℕ, suc, ◌+◌, ◌-◌, ◌*◌, ◌<◌, ◌≤◌}
 use native.Mathlib.Omega.{arith}
@@ -8,7 +8,7 @@ use Rattle.basics.specs.Slices.{cell_of}
 use Rattle.basics.specs.Limits.{name_width}
 use Rattle.lines.specs.declared.Sink.{Sink}
 use Rattle.lines.specs.Sinks.{Pours}
-use Rattle.lines.proofs.Pouring.{Pouring, pouring_start, pouring_on, pouring_end}
+use Rattle.lines.proofs.Pouring.{Pouring, pouring_on, pouring_end}
 use Rattle.rows.specs.Rows.{Tables}
 use Rattle.rows.specs.Lawful.{field_row}
 use Rattle.rows.specs.Reading.{name_from, name_at, index_from, steps_from, fields_from, entry_in, entries_from}
@@ -30,18 +30,9 @@ module _ (n : ℕ) where
   next_k : n + 1 ≡ suc n
   next_k = omega arith
 
-  at_start_lem : n + 0 ≡ n
-  at_start_lem = omega arith
-
-  all_left : n - 0 ≡ n
-  all_left = omega arith
-
 module _ {room : ℕ} {before : List ℕ} {start : Sink} where
   -- a name in a cell
   module _ (t : List ℕ) (at : ℕ) where
-    pub name_start : Pouring room before before start (name_at t at) start (name_from t (at + 0) (name_width - 0))
-    name_start = pouring_start (ap (λ (i : ℕ). name_from t i name_width) (at_start_lem at))
-
     module _ (k : ℕ) {x out : List ℕ} {s : Sink} (p : Pouring room before out start x s (name_from t (at + k) (name_width - k))) where
       pub name_end : name_width ≤ k → Pours room before out start x s
       unfolding name_from
@@ -58,32 +49,23 @@ module _ {room : ℕ} {before : List ℕ} {start : Sink} where
 
   -- the steps of a path
   module _ (registers paths : List ℕ) where
-    pub steps_start : (index name count : ℕ)
-        → Pouring room before before start (path_text (steps_from registers paths index name count)) start (path_text (steps_from registers paths index name (count - 0)))
-    steps_start index name count = pouring_start (ap (λ (n : ℕ). path_text (steps_from registers paths index name n)) (all_left count))
-
-    module _ (index name count k : ℕ) {x out : List ℕ} {s : Sink} (p : Pouring room before out start x s (path_text (steps_from registers paths index name (count - k)))) where
+    module _ (index name count k : ℕ) {x out : List ℕ} {s : Sink} (p : Pouring room before out start x s (path_text (steps_from registers paths (index + k) (name + k * name_width) (count - k)))) where
       pub steps_end : count ≤ k → Pours room before out start x s
       unfolding steps_from path_text
       steps_end h = pouring_end (rw (left_none count k h) at p)
 
-      pub steps_on : {o : List ℕ} {r : Sink} {code : ℕ} → k < count → code ≡ cell_of registers index
-          → Pours room out o s (step_text (record { name = name_at paths name; index = index_from code })) r
-          → Pouring room before o start x r (path_text (steps_from registers paths (index + 1) (name + name_width) (count - (k + 1))))
+      pub steps_on : {o : List ℕ} {r : Sink} {code : ℕ} → k < count → code ≡ cell_of registers (index + k)
+          → Pours room out o s (step_text (record { name = name_at paths (name + k * name_width); index = index_from code })) r
+          → Pouring room before o start x r (path_text (steps_from registers paths (index + (k + 1)) (name + (k + 1) * name_width) (count - (k + 1))))
       unfolding steps_from path_text
       steps_on {code = code} h e w =
-          rw (next_k index)
-          (pouring_on (step_text (record { name = name_at paths name; index = index_from code })) (path_text (steps_from registers paths (suc index) (name + name_width) (count - (k + 1))))
+          let n : name + (k + 1) * name_width ≡ name + k * name_width + name_width = omega arith in
+          rw (next_at index k, n)
+          (pouring_on (step_text (record { name = name_at paths (name + k * name_width); index = index_from code })) (path_text (steps_from registers paths (suc (index + k)) (name + k * name_width + name_width) (count - (k + 1))))
           (rw (left_more count k h, ← e) at p) w)
 
   -- the fields of a run
   module _ (fields labels : List ℕ) (first count : ℕ) where
-    pub fields_start : Pouring room before before start (fields_lines (fields_from fields labels first count)) start (fields_lines (fields_from fields labels (first + 0) (count - 0)))
-    fields_start =
-        pouring_start
-        (ap (λ (j : ℕ). fields_lines (fields_from fields labels j (count - 0))) (at_start_lem first)
-        ∙ ap (λ (n : ℕ). fields_lines (fields_from fields labels first n)) (all_left count))
-
     module _ (k : ℕ) {x out : List ℕ} {s : Sink} (p : Pouring room before out start x s (fields_lines (fields_from fields labels (first + k) (count - k)))) where
       pub fields_end : count ≤ k → Pours room before out start x s
       unfolding fields_from fields_lines
@@ -100,9 +82,6 @@ module _ {room : ℕ} {before : List ℕ} {start : Sink} where
 
   -- the registers of a map
   module _ (name : List ℕ) (t : Tables) (count : ℕ) where
-    pub entries_start : Pouring room before before start (entries_lines name (entries_from t 0 count)) start (entries_lines name (entries_from t 0 (count - 0)))
-    entries_start = pouring_start (ap (λ (n : ℕ). entries_lines name (entries_from t 0 n)) (all_left count))
-
     module _ (i : ℕ) {x out : List ℕ} {s : Sink} (p : Pouring room before out start x s (entries_lines name (entries_from t i (count - i)))) where
       pub entries_end : count ≤ i → Pours room before out start x s
       unfolding entries_from entries_lines

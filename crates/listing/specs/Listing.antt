@@ -1,22 +1,19 @@
 -- The listing (document 01, "The listing"): "Key=value lines in a fixed order, LF after each".
-use Rattle.std.specs.Prelude.{not, List, [], ◌∷◌, ◌++◌, ℕ, ltb, length, drop}
+use Rattle.std.specs.Prelude.{not, List, [], ◌∷◌, ◌++◌, ℕ, ltb, length, drop, Option, Some, None}
 use Rattle.chars.specs.Ascii.{bytes}
 use Rattle.std.specs.Prelude.{if◌then◌else◌}
-use Rattle.basics.specs.declared.Given.{Given}
-use Rattle.basics.specs.declared.Given.TheVariants.{Nothing, Number}
 use Rattle.fields.specs.declared.Offset.{Offset}
 use Rattle.fields.specs.declared.Register.{Register}
 use Rattle.lines.specs.Text.{decimal, hex, line, bits_text, value_lines}
 use Rattle.rows.specs.Rows.{Step, Field, Entry, Map, Tables}
 use Rattle.rows.specs.Lawful.{lawful}
 use Rattle.rows.specs.Reading.{rows_in}
-use Rattle.listing.specs.declared.Listed.{Listed}
-use Rattle.listing.specs.declared.Listed.TheVariants.{Refused, Written}
+use Rattle.basics.specs.Judged.{Outcome, gave, barred}
 
 -- "Array elements read `name[2]`"
-abbrev pub index_text : Given → List ℕ
-index_text Nothing = []
-index_text (Number k) = bytes "[" ++ (decimal k ++ bytes "]")
+abbrev pub index_text : Option ℕ → List ℕ
+index_text None = []
+index_text (Some k) = bytes "[" ++ (decimal k ++ bytes "]")
 
 unfoldable pub step_text : Step → List ℕ
 step_text s = bytes "." ++ (s.name ++ index_text s.index)
@@ -50,21 +47,21 @@ unfoldable pub listing_of : Map → List ℕ
 listing_of m = line (bytes "map=") m.name ++ entries_lines m.name m.entries
 
 -- "listing check 24 for the rows, then 22": what is answered, with so much room
-unfoldable pub listed : ℕ → Tables → Listed
+unfoldable pub listed : ℕ → Tables → Outcome ℕ
 listed room t =
-    if not (lawful t) then Refused 24 else
-    if ltb room (length (listing_of (rows_in t))) then Refused 22 else
-    Written (length (listing_of (rows_in t)))
+    if not (lawful t) then barred 24 else
+    if ltb room (length (listing_of (rows_in t))) then barred 22 else
+    gave (length (listing_of (rows_in t)))
 
 -- and the output afterwards: "the first .. bytes are written, the rest stay"
-abbrev pub output_of : List ℕ → List ℕ → Listed → List ℕ
-output_of out bytes (Refused n) = out
-output_of out bytes (Written n) = bytes ++ drop n out
+abbrev pub output_of : List ℕ → List ℕ → Outcome ℕ → List ℕ
+output_of out bytes (barred n) = out
+output_of out bytes (gave n) = bytes ++ drop n out
 
 -- an answer in document 01's numbers: the refusal or 0, the place, which is always 0, and the count of bytes, 0 where refused
-abbrev pub listed_numbers : Listed → List ℕ
-listed_numbers (Refused n) = n ∷ 0 ∷ 0 ∷ []
-listed_numbers (Written n) = 0 ∷ 0 ∷ n ∷ []
+abbrev pub listed_numbers : Outcome ℕ → List ℕ
+listed_numbers (barred n) = n ∷ 0 ∷ 0 ∷ []
+listed_numbers (gave n) = 0 ∷ 0 ∷ n ∷ []
 
 -- "Reset and listing check 24 for the rows, then 22": the numbers of a listing, with so much room
 unfoldable pub listing_numbers : ℕ → Tables → List ℕ

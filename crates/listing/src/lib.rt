@@ -3,6 +3,7 @@
 
 ghost use Rattle.std.specs.Prelude.{◌≡◌, ◌++◌, ◌+◌, ◌*◌, ◌≤◌, length};
 ghost use Rattle.basics.specs.Limits.{nest_limit, register_limit, register_row_width, name_width, path_row_width, index_bound, sum_bound};
+ghost use Rattle.basics.specs.Judged.{outcome};
 ghost use Rattle.chars.specs.Ascii.{bytes};
 ghost use Rattle.lines.specs.Text.{line};
 ghost use Rattle.lines.specs.Sinks.{Pours};
@@ -12,14 +13,11 @@ ghost use Rattle.rows.specs.Reading.{name_at, index_from, steps_from, path_in, f
 ghost use Rattle.listing.specs.Listing.{index_text, step_text, path_text, field_lines, fields_lines, head_lines, entry_lines, listing_of, listed, output_of, listed_numbers, listing_numbers};
 ghost use Rattle.listing.specs.Bounds.{Bounded, AllBounded};
 
+use basics::Rule;
 use lines::Sink;
 
-// A refusal's number, or how many bytes were written.
-#[derive(Clone, Copy)]
-pub enum Listed {
-    Refused(u8),
-    Written(usize),
-}
+// How many bytes were written, or the rule that is broken.
+pub type Listed = Result<usize, Rule>;
 
 // Pours the name of a cell of 32 bytes.
 pub fn put_name(out: &mut [u8], room: usize, start: Sink, names: &[u8], at: usize) -> Sink
@@ -27,19 +25,18 @@ pub fn put_name(out: &mut [u8], room: usize, start: Sink, names: &[u8], at: usiz
     ensures { Pours room out.old out.new start (name_at names.now at) result }
 {
     let mut sink = start;
-    let mut k = 0;
-    while k < basics::NAME_WIDTH {
+    for k in 0..basics::NAME_WIDTH {
         let byte = chars::byte_at(names, at + k);
         if byte == 0 {
             return sink;
         }
         sink = lines::put_byte(out, room, sink, byte);
-        k += 1;
     }
     sink
 }
 
 // Pours an element's index from its cell: the index and one more, or 0.
+#[tactic(auto, using(lines::proofs::Pouring::appends), unfolding(lines::specs::Sinks::poured, lines::specs::Sinks::filled))]
 fn put_index(out: &mut [u8], room: usize, start: Sink, index: u64) -> Sink
     ensures { Pours room out.old out.new start (index_text (index_from index)) result }
 {
@@ -52,6 +49,7 @@ fn put_index(out: &mut [u8], room: usize, start: Sink, index: u64) -> Sink
 }
 
 // Pours a step of a path.
+#[tactic(auto, using(lines::proofs::Pouring::pouring), unfolding(crate::specs::Listing::step_text))]
 fn put_step(out: &mut [u8], room: usize, start: Sink, paths: &[u8], name: usize, index: u64) -> Sink
     requires { name ≤ sum_bound }
     ensures { Pours room out.old out.new start (step_text (record { name = name_at paths.now name; index = index_from index })) result }
@@ -76,19 +74,14 @@ fn put_steps(
     ensures { Pours room out.old out.new start (path_text (steps_from registers.now paths.now index name count)) result }
 {
     let mut sink = start;
-    let mut k = 0;
-    let mut index_at = index;
-    let mut name_at = name;
-    while k < count {
-        let code = basics::cell(registers, index_at);
-        sink = put_step(out, room, sink, paths, name_at, code);
-        index_at += 1;
-        name_at += basics::NAME_WIDTH;
-        k += 1;
+    for k in 0..count as usize {
+        let code = basics::cell(registers, index + k);
+        sink = put_step(out, room, sink, paths, name + k * basics::NAME_WIDTH, code);
     }
     sink
 }
 
+#[tactic(auto, using(lines::proofs::Lines::parts))]
 fn put_name_line(
     out: &mut [u8],
     room: usize,
@@ -105,6 +98,7 @@ fn put_name_line(
     lines::put_line_end(out, room, sink)
 }
 
+#[tactic(auto, using(lines::proofs::Pouring::appends), unfolding(crate::specs::Listing::field_lines))]
 fn put_field_lines(
     out: &mut [u8],
     room: usize,
@@ -137,15 +131,14 @@ fn put_fields(
     ensures { Pours room out.old out.new start (fields_lines (fields_from fields.now labels.now first count)) result }
 {
     let mut sink = start;
-    let mut k = 0;
-    while k < count {
+    for k in 0..count {
         sink = put_field_lines(out, room, sink, fields, labels, first + k);
-        k += 1;
     }
     sink
 }
 
 // Pours the map's name and a register's path.
+#[tactic(auto, using(lines::proofs::Pouring::appends))]
 pub fn put_path(
     out: &mut [u8],
     room: usize,
@@ -164,6 +157,7 @@ pub fn put_path(
     put_steps(out, room, sink, registers, paths, index, name, depth)
 }
 
+#[tactic(auto, using(lines::proofs::Lines::parts))]
 fn put_path_line(
     out: &mut [u8],
     room: usize,
@@ -182,6 +176,7 @@ fn put_path_line(
 }
 
 // The lines of a register, without its fields.
+#[tactic(auto, using(lines::proofs::Pouring::appends), unfolding(crate::specs::Listing::head_lines))]
 fn put_head_lines(
     out: &mut [u8],
     room: usize,
@@ -201,6 +196,7 @@ fn put_head_lines(
     lines::put_decimal_line(out, room, sink, b"access=", row.access)
 }
 
+#[tactic(auto, using(lines::proofs::Pouring::appends), unfolding(crate::specs::Listing::entry_lines))]
 fn put_entry(
     out: &mut [u8],
     room: usize,
@@ -241,11 +237,8 @@ fn put_map(
     ensures { Pours room out.old out.new start (listing_of (rows_in (tables registers.now paths.now fields.now labels.now))) result }
 {
     let mut sink = put_name_line(out, room, start, b"map=", paths, 0);
-    let count = registers.len() / basics::REGISTER_ROW_WIDTH;
-    let mut i = 0;
-    while i < count {
+    for i in 0..registers.len() / basics::REGISTER_ROW_WIDTH {
         sink = put_entry(out, room, sink, registers, paths, fields, labels, i);
-        i += 1;
     }
     sink
 }
@@ -258,20 +251,20 @@ pub fn list(
     labels: &[u8],
     out: &mut [u8],
 ) -> Listed
-    ensures answer { result ≡ listed (length out.old) (tables registers.now paths.now fields.now labels.now) }
-    ensures numbers { listed_numbers result ≡ listing_numbers (length out.old) (tables registers.now paths.now fields.now labels.now) }
-    ensures written { out.new ≡ output_of out.old (listing_of (rows_in (tables registers.now paths.now fields.now labels.now))) result }
+    ensures answer { outcome result ≡ listed (length out.old) (tables registers.now paths.now fields.now labels.now) }
+    ensures numbers { listed_numbers (outcome result) ≡ listing_numbers (length out.old) (tables registers.now paths.now fields.now labels.now) }
+    ensures written { out.new ≡ output_of out.old (listing_of (rows_in (tables registers.now paths.now fields.now labels.now))) (outcome result) }
 {
     if !rows::are_lawful(registers, paths, fields, labels) {
-        return Listed::Refused(24);
+        return Err(Rule::BadRows);
     }
     let room = out.len();
     let start = Sink { at: 0, full: false };
     let mut nowhere = [0u8; 1];
     let measured = put_map(&mut nowhere, room, start, registers, paths, fields, labels);
     if measured.full {
-        return Listed::Refused(22);
+        return Err(Rule::NoRoom);
     }
     let written = put_map(out, room, start, registers, paths, fields, labels);
-    Listed::Written(written.at)
+    Ok(written.at)
 }

@@ -6,15 +6,13 @@ use Prim.Native.Nat.{ℕ, ◌^◌, ◌<◌}
 use native.Mathlib.Omega.{arith}
 use lib.Dec.{eqb, ltb}
 use borrow.Author.Tests.{eqb-true, ltb-true}
-use Rattle.std.specs.Prelude.{if◌then◌else◌}
+use Rattle.std.specs.Prelude.{if◌then◌else◌, Result, Ok, Err}
 use Rattle.chars.specs.Ascii.{bytes, is_within, is_digit}
 use Rattle.chars.specs.Run.{every}
 use Rattle.chars.specs.declared.Radix.{Radix}
 use Rattle.chars.specs.declared.Radix.TheVariants.{Decimal, Hex}
 use Rattle.chars.proofs.Laws.{either, and_both}
 use Rattle.numbers.specs.Number.{digit_value, next_value, value_from, fitting, base_of, plain_digits}
-use Rattle.numbers.specs.declared.Numeral.{Numeral}
-use Rattle.numbers.specs.declared.Numeral.TheVariants as numeral
 use Rattle.model.specs.declared.Access.{Access}
 use Rattle.log_lines.specs.declared.Expected.{Expected}
 use Rattle.log_lines.specs.declared.Stage.{Stage}
@@ -26,6 +24,7 @@ use Rattle.log_lines.specs.declared.LogLine.TheVariants.{Skipped, Made, Malforme
 use Rattle.log_lines.specs.Log.{counted, calling, letter_at, is_last, onward, broken, begun, with_letter, with_value, with_whole, with_numeral, with_digit, behind_number, with_next, with_first, behind_zero, with_first_hex, with_byte, with_bytes, access_of, cut_short, ended_number, ended, line_of}
 use Rattle.log_lines.specs.Spelled.{Spelled, spelled_decimal, spelled_hex, spelled_upper, read_line, write_line, Ends, ends_bare, ends_return, Written, written_read, written_write, Passed, passed_empty, passed_comment}
 use Rattle.log_lines.proofs.Reading.{line, zero_value, spelled_read, spelled_read_return, spelled_write, spelled_write_return}
+use Rattle.numbers.specs.declared.BadNumber.{BadNumber}
 
 made_inner : {x y : Access} → Made x ≡ Made y → x ≡ y
 made_inner e = cc
@@ -259,9 +258,9 @@ module _ {x : Access} where
       let l4 : Leading Number (calling false) x 32 l3.rest = letter_only false 4 l3.column l3.rest l3.goes in
       rw (l1.split, l2.split, l3.split, l4.split) (read_first {bs = l4.rest} (number_only (calling false) l4.column l4.rest l4.goes))
 
-  write_only_lem : (k : ℕ) (bs : List ℕ) → line_with (line (Word 1) k (calling true)) bs ≡ Made x → Written x (119 ∷ bs)
+  write-only : (k : ℕ) (bs : List ℕ) → line_with (line (Word 1) k (calling true)) bs ≡ Made x → Written x (119 ∷ bs)
   unfolding letter_at counted
-  write_only_lem k bs h =
+  write-only k bs h =
       let l1 : Leading (Word 2) (calling true) x 114 bs = letter_only true 1 k bs h in
       let l2 : Leading (Word 3) (calling true) x 105 l1.rest = letter_only true 2 l1.column l1.rest l1.goes in
       let l3 : Leading (Word 4) (calling true) x 116 l2.rest = letter_only true 3 l2.column l2.rest l2.goes in
@@ -294,7 +293,7 @@ module _ {x : Access} where
       by_return p q r false s = absurd (broken_not _ bs (rw (p, q, r, s) at h))
 
       by_write : eqb b 35 ≡ false → eqb b 114 ≡ false → (t : Bool) → eqb b 119 ≡ t → Written x (b ∷ bs)
-      by_write p q true r = rw (eqb-true b 119 r) (write_only_lem _ bs (rw (p, q, r) at h))
+      by_write p q true r = rw (eqb-true b 119 r) (write-only _ bs (rw (p, q, r) at h))
       by_write p q false r = by_return p q r (eqb b 13) refl
 
       by_read : eqb b 35 ≡ false → (t : Bool) → eqb b 114 ≡ t → Written x (b ∷ bs)
@@ -341,11 +340,10 @@ module _ (l : Line) where
   unfolding with_letter onward
   letter_busy n b = either Busy (not (eqb b (letter_at l.call.writes n))) (λ _. broken_busy) (λ _. either Busy (eqb b 32) (λ _. refl) (λ _. refl))
 
-  numeral_busy : (r : Radix) (m : Numeral) → Busy (with_numeral l r m)
+  numeral_busy : (r : Radix) (m : Result ℕ BadNumber) → Busy (with_numeral l r m)
   unfolding onward
-  numeral_busy r (numeral.Fits n) = refl
-  numeral_busy r numeral.Malformed = refl
-  numeral_busy r numeral.TooWide = refl
+  numeral_busy r (Ok n) = refl
+  numeral_busy r (Err bad) = refl
 
   digit_busy : (r : Radix) (b : ℕ) → Busy (with_digit l r b)
   unfolding with_digit

@@ -1,15 +1,13 @@
 -- The lines of a log: "`read WIDTH ADDRESS`", "`write WIDTH ADDRESS WORD`"; "Numbers in the log are decimal or `0x` hex in either case, at
 -- most 64 bits; one blank between words; lines end in LF (a CR before it belongs to the line's end); empty lines and lines that begin with
 -- `#` are skipped." A line is read byte by byte, so that it is the same however the log is cut.
-use Rattle.std.specs.Prelude.{Bool, true, false, not, List, [], ◌∷◌, ℕ, suc, ◌-◌, ◌^◌, eqb, ltb, get_or}
+use Rattle.std.specs.Prelude.{Bool, true, false, not, List, [], ◌∷◌, ℕ, suc, ◌-◌, ◌^◌, eqb, ltb, get_or, Result, Ok, Err}
 use Prim.Native.Char.{code}
 use Rattle.std.specs.Prelude.{if◌then◌else◌}
 use Rattle.chars.specs.Ascii.{bytes, is_digit}
 use Rattle.chars.specs.declared.Radix.{Radix}
 use Rattle.chars.specs.declared.Radix.TheVariants.{Decimal, Hex}
 use Rattle.numbers.specs.Number.{next_value, fitting, base_of}
-use Rattle.numbers.specs.declared.Numeral.{Numeral}
-use Rattle.numbers.specs.declared.Numeral.TheVariants as numeral
 use Rattle.model.specs.declared.Access.{Access}
 use Rattle.model.specs.declared.Access.TheVariants.{Read, Write}
 use Rattle.log_lines.specs.declared.Expected.{Expected}
@@ -20,6 +18,7 @@ use Rattle.log_lines.specs.declared.Call.{Call}
 use Rattle.log_lines.specs.declared.Line.{Line}
 use Rattle.log_lines.specs.declared.LogLine.{LogLine}
 use Rattle.log_lines.specs.declared.LogLine.TheVariants.{Skipped, Made, Malformed}
+use Rattle.numbers.specs.declared.BadNumber.{BadNumber}
 
 -- columns and lines are counted as far as 64 bits go
 unfoldable pub counted : ℕ → ℕ
@@ -99,10 +98,9 @@ abbrev pub with_whole : Call → Call
 with_whole c = record { writes = c.writes; whole = counted c.whole; earlier = c.last; last = c.value; value = 0 }
 
 -- a digit of a number, which is to have "at most 64 bits"
-abbrev pub with_numeral : Line → Radix → Numeral → Line
-with_numeral l r (numeral.Fits n) = onward l (Digits r) (with_value l.call n)
-with_numeral l r numeral.Malformed = onward l (Broken due.FewerBits) l.call
-with_numeral l r numeral.TooWide = onward l (Broken due.FewerBits) l.call
+abbrev pub with_numeral : Line → Radix → Result ℕ BadNumber → Line
+with_numeral l r (Ok n) = onward l (Digits r) (with_value l.call n)
+with_numeral l r (Err bad) = onward l (Broken due.FewerBits) l.call
 
 unfoldable pub with_digit : Line → Radix → ℕ → Line
 with_digit l r b = with_numeral l r (fitting 64 (next_value (base_of r) l.call.value b))

@@ -11,7 +11,6 @@ use chars::Radix;
 use fields::Offset;
 use lines::Sink;
 use model::Access;
-use numbers::Numeral;
 
 // What stands where a line cannot go on.
 #[derive(Clone, Copy)]
@@ -81,13 +80,11 @@ pub enum LogLine {
 }
 
 // One more, as far as 64 bits go.
+#[tactic(auto, unfolding(crate::specs::Log::counted))]
 pub fn counted(n: u64) -> u64
     ensures { result ≡ counted n }
 {
-    if n < 0xffff_ffff_ffff_ffff {
-        return n + 1;
-    }
-    n
+    n.saturating_add(1)
 }
 
 // An access of which nothing but the word is read.
@@ -107,78 +104,76 @@ fn calling(writes: bool) -> Call
 pub fn fresh() -> Line
     ensures { result ≡ fresh }
 {
-    let call = calling(false);
     Line {
         stage: Stage::Start,
         column: 0,
-        call,
+        call: calling(false),
     }
 }
 
 // The byte that is due in the word of an access, or 0 behind it.
+#[tactic(auto, unfolding(crate::specs::Log::letter_at))]
 fn letter_at(writes: bool, letters: u64) -> u8
     ensures { result ≡ letter_at writes letters }
 {
     if writes {
-        return chars::byte_at(b"write ", letters as usize);
+        chars::byte_at(b"write ", letters as usize)
+    } else {
+        chars::byte_at(b"read ", letters as usize)
     }
-    chars::byte_at(b"read ", letters as usize)
 }
 
 // Whether the number that is being read is the access's last.
+#[tactic(auto, unfolding(crate::specs::Log::is_last))]
 fn is_last(call: Call) -> bool
     ensures { result ≡ is_last call }
 {
-    if call.writes {
-        return call.whole == 2;
-    }
-    call.whole == 1
+    call.whole == if call.writes { 2 } else { 1 }
 }
 
 // What is due in the word of an access.
+#[tactic(auto, unfolding(crate::specs::Log::expected_in_word))]
 fn expected_in_word(call: Call, letters: u64) -> Expected
     ensures { result ≡ expected_in_word call letters }
 {
     if letter_at(call.writes, letters) == b' ' {
-        return Expected::Blank;
+        Expected::Blank
+    } else if call.writes {
+        Expected::WriteWord
+    } else {
+        Expected::ReadWord
     }
-    if call.writes {
-        return Expected::WriteWord;
-    }
-    Expected::ReadWord
 }
 
 // What is due behind a digit.
+#[tactic(auto, unfolding(crate::specs::Log::expected_behind))]
 fn expected_behind(call: Call) -> Expected
     ensures { result ≡ expected_behind call }
 {
     if is_last(call) {
-        return Expected::DigitOrEnd;
+        Expected::DigitOrEnd
+    } else {
+        Expected::DigitOrBlank
     }
-    Expected::DigitOrBlank
 }
 
 // What a line may go on with.
 fn expected_next(line: Line) -> Expected
     ensures { result ≡ expected_next line }
 {
-    let call = line.call;
-    let stage = line.stage;
-    match stage {
-        Stage::Start => Expected::Line,
-        Stage::Comment => Expected::Line,
-        Stage::Word(letters) => expected_in_word(call, letters),
+    match line.stage {
+        Stage::Start | Stage::Comment => Expected::Line,
+        Stage::Word(letters) => expected_in_word(line.call, letters),
         Stage::Number => Expected::Number,
-        Stage::Zero => expected_behind(call),
+        Stage::Zero | Stage::Digits(_) => expected_behind(line.call),
         Stage::Prefix => Expected::HexDigit,
-        Stage::Digits(_) => expected_behind(call),
-        Stage::EmptyEnd => Expected::End,
-        Stage::AccessEnd => Expected::End,
+        Stage::EmptyEnd | Stage::AccessEnd => Expected::End,
         Stage::Broken(due) => due,
     }
 }
 
 // The line, a byte further.
+#[tactic(auto, unfolding(crate::specs::Log::onward))]
 fn onward(line: Line, stage: Stage, call: Call) -> Line
     ensures { result ≡ onward line stage call }
 {
@@ -190,52 +185,46 @@ fn onward(line: Line, stage: Stage, call: Call) -> Line
 }
 
 // The line with a byte that no line has there.
+#[tactic(auto, unfolding(crate::specs::Log::broken))]
 fn broken(line: Line) -> Line
     ensures { result ≡ broken line }
 {
-    let call = line.call;
-    onward(line, Stage::Broken(expected_next(line)), call)
+    onward(line, Stage::Broken(expected_next(line)), line.call)
 }
 
 // A line's first byte.
+#[tactic(auto, unfolding(crate::specs::Log::begun))]
 fn begun(line: Line, byte: u8) -> Line
     ensures { result ≡ begun line byte }
 {
-    let call = line.call;
     match byte {
-        b'#' => onward(line, Stage::Comment, call),
+        b'#' => onward(line, Stage::Comment, line.call),
         b'r' => onward(line, Stage::Word(1), calling(false)),
         b'w' => onward(line, Stage::Word(1), calling(true)),
-        b'\r' => onward(line, Stage::EmptyEnd, call),
+        b'\r' => onward(line, Stage::EmptyEnd, line.call),
         _ => broken(line),
     }
 }
 
 // A byte of the word of an access, behind so many others; the word's last is a blank.
+#[tactic(auto, unfolding(crate::specs::Log::with_letter))]
 fn with_letter(line: Line, letters: u64, byte: u8) -> Line
     ensures { result ≡ with_letter line letters byte }
 {
-    let call = line.call;
-    if byte != letter_at(call.writes, letters) {
-        return broken(line);
+    if byte != letter_at(line.call.writes, letters) {
+        broken(line)
+    } else if byte == b' ' {
+        onward(line, Stage::Number, line.call)
+    } else {
+        onward(line, Stage::Word(counted(letters)), line.call)
     }
-    if byte == b' ' {
-        return onward(line, Stage::Number, call);
-    }
-    onward(line, Stage::Word(counted(letters)), call)
 }
 
 // The access with a number so far.
 fn with_value(call: Call, value: u64) -> Call
     ensures { result ≡ with_value call value }
 {
-    Call {
-        writes: call.writes,
-        whole: call.whole,
-        earlier: call.earlier,
-        last: call.last,
-        value,
-    }
+    Call { value, ..call }
 }
 
 // The access with its number whole, and the next to come.
@@ -243,105 +232,103 @@ fn with_whole(call: Call) -> Call
     ensures { result ≡ with_whole call }
 {
     Call {
-        writes: call.writes,
         whole: counted(call.whole),
         earlier: call.last,
         last: call.value,
         value: 0,
+        ..call
     }
 }
 
 // A digit of a number.
+#[tactic(auto, unfolding(crate::specs::Log::with_digit))]
 fn with_digit(line: Line, radix: Radix, byte: u8) -> Line
     ensures { result ≡ with_digit line radix byte }
 {
     let call = line.call;
     match numbers::next_value(call.value, numbers::base_of(radix), byte) {
-        Numeral::Fits(value) => onward(line, Stage::Digits(radix), with_value(call, value)),
-        Numeral::Malformed => onward(line, Stage::Broken(Expected::FewerBits), call),
-        Numeral::TooWide => onward(line, Stage::Broken(Expected::FewerBits), call),
+        Ok(value) => onward(line, Stage::Digits(radix), with_value(call, value)),
+        Err(_) => onward(line, Stage::Broken(Expected::FewerBits), call),
     }
 }
 
 // A byte behind a number: a blank where another follows, or a CR.
+#[tactic(auto, unfolding(crate::specs::Log::behind_number))]
 fn behind_number(line: Line, byte: u8) -> Line
     ensures { result ≡ behind_number line byte }
 {
-    let call = line.call;
-    if is_last(call) {
-        if byte == b'\r' {
-            return onward(line, Stage::AccessEnd, call);
-        }
-        return broken(line);
+    let last = is_last(line.call);
+    if last && byte == b'\r' {
+        onward(line, Stage::AccessEnd, line.call)
+    } else if !last && byte == b' ' {
+        onward(line, Stage::Number, with_whole(line.call))
+    } else {
+        broken(line)
     }
-    if byte == b' ' {
-        return onward(line, Stage::Number, with_whole(call));
-    }
-    broken(line)
 }
 
 // A byte behind a number's digits.
+#[tactic(auto, unfolding(crate::specs::Log::with_next))]
 fn with_next(line: Line, radix: Radix, byte: u8) -> Line
     ensures { result ≡ with_next line radix byte }
 {
     if chars::is_digit(radix, byte) {
-        return with_digit(line, radix, byte);
+        with_digit(line, radix, byte)
+    } else {
+        behind_number(line, byte)
     }
-    behind_number(line, byte)
 }
 
 // A number's first byte.
+#[tactic(auto, unfolding(crate::specs::Log::with_first))]
 fn with_first(line: Line, byte: u8) -> Line
     ensures { result ≡ with_first line byte }
 {
-    let call = line.call;
     if byte == b'0' {
-        return onward(line, Stage::Zero, call);
+        onward(line, Stage::Zero, line.call)
+    } else if chars::is_digit(Radix::Decimal, byte) {
+        with_digit(line, Radix::Decimal, byte)
+    } else {
+        broken(line)
     }
-    if chars::is_digit(Radix::Decimal, byte) {
-        return with_digit(line, Radix::Decimal, byte);
-    }
-    broken(line)
 }
 
 // A byte behind a number's first 0.
+#[tactic(auto, unfolding(crate::specs::Log::behind_zero))]
 fn behind_zero(line: Line, byte: u8) -> Line
     ensures { result ≡ behind_zero line byte }
 {
-    let call = line.call;
     match byte {
-        b'x' => onward(line, Stage::Prefix, call),
-        b'X' => onward(line, Stage::Prefix, call),
+        b'x' | b'X' => onward(line, Stage::Prefix, line.call),
         _ => with_next(line, Radix::Decimal, byte),
     }
 }
 
 // A byte behind a number's `0x`.
+#[tactic(auto, unfolding(crate::specs::Log::with_first_hex))]
 fn with_first_hex(line: Line, byte: u8) -> Line
     ensures { result ≡ with_first_hex line byte }
 {
     if chars::is_digit(Radix::Hex, byte) {
-        return with_digit(line, Radix::Hex, byte);
+        with_digit(line, Radix::Hex, byte)
+    } else {
+        broken(line)
     }
-    broken(line)
 }
 
 // The line with one byte more, which is no LF.
 pub fn with_byte(line: Line, byte: u8) -> Line
     ensures { result ≡ with_byte line byte }
 {
-    let stage = line.stage;
-    match stage {
+    match line.stage {
         Stage::Start => begun(line, byte),
-        Stage::Comment => line,
+        Stage::Comment | Stage::Broken(_) => line,
         Stage::Word(letters) => with_letter(line, letters, byte),
         Stage::Number => with_first(line, byte),
         Stage::Zero => behind_zero(line, byte),
         Stage::Prefix => with_first_hex(line, byte),
         Stage::Digits(radix) => with_next(line, radix, byte),
-        Stage::EmptyEnd => broken(line),
-        Stage::AccessEnd => broken(line),
-        Stage::Broken(_) => line,
+        Stage::EmptyEnd | Stage::AccessEnd => broken(line),
     }
 }
 
@@ -350,21 +337,21 @@ fn access_of(call: Call) -> Access
     ensures { result ≡ access_of call }
 {
     if call.writes {
-        let address = Offset(call.last);
-        return Access::Write {
-            address,
+        Access::Write {
+            address: Offset(call.last),
             width: call.earlier,
             word: call.value,
-        };
-    }
-    let address = Offset(call.value);
-    Access::Read {
-        address,
-        width: call.last,
+        }
+    } else {
+        Access::Read {
+            address: Offset(call.value),
+            width: call.last,
+        }
     }
 }
 
 // A line that ends where something else was expected.
+#[tactic(auto, unfolding(crate::specs::Log::cut_short))]
 fn cut_short(line: Line) -> LogLine
     ensures { result ≡ cut_short line }
 {
@@ -372,37 +359,32 @@ fn cut_short(line: Line) -> LogLine
 }
 
 // A line that ends behind a digit.
+#[tactic(auto, unfolding(crate::specs::Log::ended_number))]
 fn ended_number(line: Line) -> LogLine
     ensures { result ≡ ended_number line }
 {
-    let call = line.call;
-    if is_last(call) {
-        return LogLine::Made(access_of(call));
+    if is_last(line.call) {
+        LogLine::Made(access_of(line.call))
+    } else {
+        cut_short(line)
     }
-    cut_short(line)
 }
 
 // What a line is that ends here.
 pub fn ended(line: Line) -> LogLine
     ensures { result ≡ ended line }
 {
-    let call = line.call;
-    let stage = line.stage;
-    match stage {
-        Stage::Start => LogLine::Skipped,
-        Stage::Comment => LogLine::Skipped,
-        Stage::Word(_) => cut_short(line),
-        Stage::Number => cut_short(line),
-        Stage::Zero => ended_number(line),
-        Stage::Prefix => cut_short(line),
-        Stage::Digits(_) => ended_number(line),
-        Stage::EmptyEnd => LogLine::Skipped,
-        Stage::AccessEnd => LogLine::Made(access_of(call)),
+    match line.stage {
+        Stage::Start | Stage::Comment | Stage::EmptyEnd => LogLine::Skipped,
+        Stage::Word(_) | Stage::Number | Stage::Prefix => cut_short(line),
+        Stage::Zero | Stage::Digits(_) => ended_number(line),
+        Stage::AccessEnd => LogLine::Made(access_of(line.call)),
         Stage::Broken(due) => LogLine::Malformed(line.column, due),
     }
 }
 
 // A blank, and a number in hex.
+#[tactic(auto, unfolding(crate::specs::Text::blank_hex, lines::specs::Sinks::poured, lines::specs::Sinks::filled))]
 fn put_blank_hex(out: &mut [u8], room: usize, start: Sink, n: u64) -> Sink
     ensures { Pours room out.old out.new start (blank_hex n) result }
 {
@@ -411,6 +393,7 @@ fn put_blank_hex(out: &mut [u8], room: usize, start: Sink, n: u64) -> Sink
 }
 
 // A word, a width and an address.
+#[tactic(auto, using(lines::proofs::Pouring::appends), unfolding(crate::specs::Text::call_text))]
 fn put_call(
     out: &mut [u8],
     room: usize,
@@ -427,6 +410,7 @@ fn put_call(
 }
 
 // An access as a log has it.
+#[tactic(auto, using(lines::proofs::Pouring::appends))]
 pub fn put_access(out: &mut [u8], room: usize, start: Sink, access: Access) -> Sink
     ensures { Pours room out.old out.new start (access_text access) result }
 {

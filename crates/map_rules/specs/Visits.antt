@@ -1,11 +1,9 @@
 -- "Map order: depth first, as declared, elements rising": every element that the map instantiates, a regfile before its content.
-use Rattle.std.specs.Prelude.{Bool, true, false, ◌&&◌, List, [], ◌∷◌, ◌++◌, ℕ, zero, suc, ◌+◌, ◌*◌, ltb}
+use Rattle.std.specs.Prelude.{Bool, true, false, ◌&&◌, List, [], ◌∷◌, ◌++◌, ℕ, zero, suc, ◌+◌, ◌*◌, ltb, Option, Some, None}
 use Rattle.parts.specs.declared.Name.{Name}
 use Rattle.parts.specs.declared.Array.{Array}
 use Rattle.parts.specs.declared.Array.TheVariants as array
 use Rattle.suffixes.specs.Suffixes.{is_array}
-use Rattle.basics.specs.declared.Given.{Given}
-use Rattle.basics.specs.declared.Given.TheVariants.{Nothing, Number}
 use Rattle.fields.specs.declared.Offset.{Offset}
 use Rattle.components.specs.declared.Component.{Component}
 use Rattle.components.specs.declared.Component.TheVariants as component
@@ -17,7 +15,7 @@ use Rattle.layout.specs.declared.Laid.{Laid}
 -- a step of a path: an instance's name, and an element's index in an array
 pub record PathStep : Type 0 where
   pub name : Name
-  pub index : Given
+  pub index : Option ℕ
 
 -- an element: its path below the map, its own name, its type's definition, its address, and whether its array's stride is below its
 -- size (19)
@@ -28,10 +26,10 @@ pub record Visit : Type 0 where
   pub address : Offset
   pub short : Bool
 
-abbrev pub index_in : Array → ℕ → Given
-index_in array.Missing k = Nothing
-index_in (array.Size mark n) k = Number k
-index_in (array.Range mark left right) k = Nothing
+abbrev pub index_in : Array → ℕ → Option ℕ
+index_in array.Missing k = None
+index_in (array.Size mark n) k = Some k
+index_in (array.Range mark left right) k = None
 
 abbrev pub is_group : Component → Bool
 is_group (component.Field f) = false

@@ -3,9 +3,7 @@ use Rattle.std.specs.Prelude.{Bool, true, false, ◌||◌, ◌&&◌, not, List, 
 use Rattle.std.specs.Prelude.{if◌then◌else◌}
 use Rattle.fields.specs.Codes.{access_code}
 use Rattle.fields.specs.declared.AccessRight.TheVariants as access
-use Rattle.basics.specs.declared.Fault.{Fault}
-use Rattle.basics.specs.declared.Fault.TheVariants.{None, Refused}
-use Rattle.basics.specs.Judged.{first_of}
+use Rattle.basics.specs.Judged.{first_of, Verdict, Accepted, Refused}
 use Rattle.components.specs.declared.Component.{Component}
 use Rattle.components.specs.declared.Component.TheVariants as component
 use Rattle.fields.specs.declared.FieldAt.{FieldAt}
@@ -26,12 +24,12 @@ is_register (component.Addrmap a m) = false
 abbrev pub is_register_visit : List Definition → Visit → Bool
 is_register_visit table v = is_register (definition_of table v.type).component
 
-abbrev pub offence : ℕ → Visit → Fault
+abbrev pub offence : ℕ → Visit → Verdict
 offence n v = Refused n v.name.start
 
 -- 18: "8 nested instances below the map (not fields), 1,024 registers, 4,096 fields", one walk for all three
-unfoldable pub too_many : List Definition → ℕ → ℕ → List Visit → Fault
-too_many table registers fields [] = None
+unfoldable pub too_many : List Definition → ℕ → ℕ → List Visit → Verdict
+too_many table registers fields [] = Accepted
 too_many table registers fields (v ∷ vs) =
     let r = if is_register_visit table v then suc registers else registers in
     let f = if is_register_visit table v then fields + length (definition_of table v.type).instances else fields in
@@ -39,13 +37,13 @@ too_many table registers fields (v ∷ vs) =
     too_many table r f vs
 
 -- 19: "stride below element size"
-unfoldable pub too_close : List Visit → Fault
-too_close [] = None
+unfoldable pub too_close : List Visit → Verdict
+too_close [] = Accepted
 too_close (v ∷ vs) = if v.short then offence 19 v else too_close vs
 
 -- 20: "register not on a multiple of its access bytes, or last byte above 2^32-1"
-unfoldable pub misplaced : List Definition → List Shape → List Visit → Fault
-misplaced table shapes [] = None
+unfoldable pub misplaced : List Definition → List Shape → List Visit → Verdict
+misplaced table shapes [] = Accepted
 misplaced table shapes (v ∷ vs) =
     let s = shape_at shapes v.type in
     if is_register_visit table v && (not (eqb (v.address.0 % s.access) 0) || ltb address_end (v.address.0 + s.size)) then offence 20 v else
@@ -59,7 +57,7 @@ every_access a (f ∷ fs) = eqb f.values.sw a && every_access a fs
 abbrev pub has_access : List Definition → ℕ → ℕ → Bool
 has_access table a type = every_access a (fields_of table (definition_of table type).instances)
 
--- "one read-only and one write_only_lem"
+-- "one read-only and one write-only"
 unfoldable pub is_pair : List Definition → ℕ → ℕ → Bool
 is_pair table reader writer = has_access table (access_code access.R) reader && has_access table (access_code access.W) writer
 
@@ -77,8 +75,8 @@ overlaps_one table shapes v [] = false
 overlaps_one table shapes v (u ∷ us) = (is_register_visit table u && overlap_registers table shapes v u) || overlaps_one table shapes v us
 
 -- 21: "registers overlap", at the "later one's name"
-unfoldable pub overlapping : List Definition → List Shape → List Visit → List Visit → Fault
-overlapping table shapes earlier [] = None
+unfoldable pub overlapping : List Definition → List Shape → List Visit → List Visit → Verdict
+overlapping table shapes earlier [] = Accepted
 overlapping table shapes earlier (v ∷ vs) =
     if is_register_visit table v && overlaps_one table shapes v earlier then offence 21 v else
     overlapping table shapes (earlier ++ (v ∷ [])) vs
@@ -99,7 +97,7 @@ map_shapes m = shapes_from (mode_of (definition_of m.table m.map).component) [] 
 abbrev pub map_visits : Meaning → List Visit
 map_visits m = visits_in (suc nest_limit) (mode_of (definition_of m.table m.map).component) m.table (map_shapes m) m.map bottom []
 
-unfoldable pub map_fault : Meaning → Fault
+unfoldable pub map_fault : Meaning → Verdict
 map_fault m =
     let table = m.table in
     let shapes = map_shapes m in

@@ -18,15 +18,14 @@ use Rattle.sizes.specs.declared.Extent.{Extent}
 use Rattle.sizes.specs.Ready.{known}
 use Rattle.sizes.specs.Shapes.{all_shapes}
 use Rattle.map_walk.specs.declared.Trail.{Trail}
-use Rattle.map_walk.specs.declared.Tally.{Tally}
+use Rattle.map_walk.specs.Runs.{Total}
 use Rattle.map_walk.specs.declared.Kid.{Kid}
 use Rattle.map_walk.specs.declared.Element.{Element}
-use Rattle.map_walk.specs.declared.Walked.{Walked}
-use Rattle.map_walk.specs.declared.Walked.TheVariants as walked
 use Rattle.rows.specs.Rows.{index_code}
 use Rattle.map_walk.specs.Walks.{Small, Trails, Walks, visit_of, ElementWalks, KidOf, KidFits, ArrayWalks}
 use Rattle.map_walk.proofs.Runs.{Onto, onto_start, onto_end, onto_on, onto_fault}
 use Rattle.map_walk.proofs.Contents.{small_same, small_none}
+use Rattle.basics.specs.Judged.{Judged, fine, fault}
 
 -- an element of an instance, by its index and its address
 abbrev pub element_of : Kid → ℕ → Offset → Element
@@ -48,21 +47,21 @@ elements_more : (levels m : ℕ) (table : List Definition) (shapes : List Shape)
 unfolding element_visits
 elements_more levels m table shapes path c base l k o e = rw (e, o.row, o.instance, o.short)
 
-pub record ArrayLeft (text t before : List ℕ) (e : Extent) (levels : ℕ) (start : Tally) (k : ℕ) (address : Offset) (tally : Tally) (log : List ℕ) (path : List PathStep) (c : Child) (l : Laid) (base : Offset) : Type 0 where
+pub record ArrayLeft (text t before : List ℕ) (e : Extent) (levels : ℕ) (start : Total) (k : ℕ) (address : Offset) (tally : Total) (log : List ℕ) (path : List PathStep) (c : Child) (l : Laid) (base : Offset) : Type 0 where
   pub place : address ≡ cut_offset (address_of base l k)
   pub onto : Onto (known text t e) (all_shapes text t e) before start
       (element_visits (visits_in levels e.mode (known text t e) (all_shapes text t e) c.type) path c base (shape_at (all_shapes text t e) c.type) l 0 (elements c.instance.array))
       log tally
       (element_visits (visits_in levels e.mode (known text t e) (all_shapes text t e) c.type) path c base (shape_at (all_shapes text t e) c.type) l k (elements c.instance.array - k))
 
-pub record Arraying (text t before : List ℕ) (e : Extent) (levels : ℕ) (kid : Kid) (trail : Trail) (start : Tally) (k : ℕ) (address : Offset) (tally : Tally) (log : List ℕ) : Type 0 where
+pub record Arraying (text t before : List ℕ) (e : Extent) (levels : ℕ) (kid : Kid) (trail : Trail) (start : Total) (k : ℕ) (address : Offset) (tally : Total) (log : List ℕ) : Type 0 where
   pub low : address.0 ≤ cap
   pub small : Small tally
   pub long : length log ≡ length before
   pub each : (path : List PathStep) (c : Child) (l : Laid) (base : Offset) → Trails trail path → KidOf kid c (shape_at (all_shapes text t e) c.type) l base
       → ArrayLeft text t before e levels start k address tally log path c l base
 
-module _ (text t before : List ℕ) (e : Extent) (levels : ℕ) (kid : Kid) (trail : Trail) (start : Tally) where
+module _ (text t before : List ℕ) (e : Extent) (levels : ℕ) (kid : Kid) (trail : Trail) (start : Total) where
   pub array_start : KidFits e kid → Small start → Arraying text t before e levels kid trail start 0 kid.address start before
   array_start f s =
       record {
@@ -75,12 +74,12 @@ module _ (text t before : List ℕ) (e : Extent) (levels : ℕ) (kid : Kid) (tra
             record { place = ap (λ (m : ℕ). record { 0 = m }) (o.address ∙ ap cut (sym z)); onto = rw n onto_start };
       }
 
-  pub element_fits : {k : ℕ} {address : Offset} {tally : Tally} {log : List ℕ} → Arraying text t before e levels kid trail start k address tally log
+  pub element_fits : {k : ℕ} {address : Offset} {tally : Total} {log : List ℕ} → Arraying text t before e levels kid trail start k address tally log
       → KidFits e kid → {x : Element} → x ≡ element_of kid k address → (x.row < e.rows) × (x.address.0 ≤ cap)
   element_fits g f q = rw q (f.row, g.low)
 
-  module _ {k : ℕ} {address : Offset} {tally : Tally} {log : List ℕ} (g : Arraying text t before e levels kid trail start k address tally log) {count : ℕ} (m : count ≡ elements kid.instance.array) where
-    pub array_end : count ≤ k → ArrayWalks text t before log e levels kid trail start (walked.Done tally)
+  module _ {k : ℕ} {address : Offset} {tally : Total} {log : List ℕ} (g : Arraying text t before e levels kid trail start k address tally log) {count : ℕ} (m : count ≡ elements kid.instance.array) where
+    pub array_end : count ≤ k → ArrayWalks text t before log e levels kid trail start (fine tally)
     array_end h =
         record {
           small = small_same g.small;
@@ -95,10 +94,7 @@ module _ (text t before : List ℕ) (e : Extent) (levels : ℕ) (kid : Kid) (tra
       pub index_fits : KidFits e kid → k < sum_bound
       index_fits f = omega (arith, h, m, f.count)
 
-      pub array_falls : count - (k + 1) < count - k
-      array_falls = omega (arith, h)
-
-    module _ (h : k < count) {x : Element} (q : x ≡ element_of kid k address) {after : List ℕ} {r : Walked} (w : ElementWalks text t log after e levels x trail tally r) where
+    module _ (h : k < count) {x : Element} (q : x ≡ element_of kid k address) {after : List ℕ} {r : Judged Total} (w : ElementWalks text t log after e levels x trail tally r) where
       -- what is left, with the next element first
       next : (path : List PathStep) (c : Child) (l : Laid) (base : Offset) → Trails trail path → KidOf kid c (shape_at (all_shapes text t e) c.type) l base
           → Onto (known text t e) (all_shapes text t e) before start
@@ -115,7 +111,7 @@ module _ (text t before : List ℕ) (e : Extent) (levels : ℕ) (kid : Kid) (tra
           (element_with levels e.mode (known text t e) (all_shapes text t e) kid path k (address_of base l k)) r
       walks path c l base tr o = (rw q at w).each path (index_in kid.instance.array k) (address_of base l k) tr refl (g.each path c l base tr o).place
 
-      pub array_fault_lem : {p : ℕ} → r ≡ walked.Refused p → ArrayWalks text t before after e levels kid trail start (walked.Refused p)
+      pub array_fault_lem : {n p : ℕ} → r ≡ fault n p → ArrayWalks text t before after e levels kid trail start (fault n p)
       array_fault_lem f =
           record {
             small = small_none;
@@ -125,7 +121,7 @@ module _ (text t before : List ℕ) (e : Extent) (levels : ℕ) (kid : Kid) (tra
                 (next path c l base tr o) (walks path c l base tr o) f;
           }
 
-      pub array_on : {u : Tally} {past : ℕ} → length after ≡ length log → r ≡ walked.Done u → (past ≡ cut (address.0 + kid.stride)) × (past ≤ cap)
+      pub array_on : {u : Total} {past : ℕ} → length after ≡ length log → r ≡ fine u → (past ≡ cut (address.0 + kid.stride)) × (past ≤ cap)
           → Arraying text t before e levels kid trail start (k + 1) (record { 0 = past }) u after
       array_on {u} {past} long f y =
           let z : k + 1 ≡ suc k = add-one k in

@@ -9,20 +9,15 @@ use native.Mathlib.Omega.{arith}
 use lib.Dec.{ltb}
 use lib.ListN.{length}
 use borrow.Author.Tests.{lt-ltb, le-ltb, ltb-true, ltb-false}
-use Rattle.parts.specs.declared.Suffix.{Suffix}
-use Rattle.parts.specs.declared.Suffix.TheVariants as suffix
 use Rattle.parts.specs.declared.Instance.{Instance}
 use Rattle.suffixes.specs.Suffixes.{is_array}
 use Rattle.basics.specs.Given.{or_else}
-use Rattle.basics.specs.declared.Given.{Given}
 use Rattle.components.specs.Components.{kind_of}
 use Rattle.fields.specs.declared.Offset.{Offset}
 use Rattle.basics.specs.Slices.{cell_of}
 use Rattle.cells.specs.Cells.{entries_at, first_in, count_in, size}
 use Rattle.cells.specs.Definitions.{Child, definition_of}
 use Rattle.cells.specs.Decoded.{child_in}
-use Rattle.cells.specs.declared.ChildReading.{ChildReading}
-use Rattle.cells.specs.declared.ChildReading.TheVariants as child_reading
 use Rattle.cells.proofs.Laws.{child_entry}
 use Rattle.cells.specs.Relation.{IsEntry, Block, block_end, block_on}
 use Rattle.capped.specs.Offsets.{cap, cut, raised}
@@ -36,16 +31,17 @@ use Rattle.map_rules.specs.Visits.{PathStep, Visit, element_visits, child_visits
 use Rattle.sizes.specs.declared.Extent.{Extent}
 use Rattle.sizes.specs.Ready.{known}
 use Rattle.sizes.specs.Shapes.{shape_in, all_shapes, GroupRow}
-use Rattle.sizes.proofs.Laws.{ready_block, ready_count, ready_within}
+use Rattle.sizes.proofs.Laws.{fine_parts, ready_block, ready_count}
 use Rattle.sizes.proofs.Children.{ReadyChild, ReadyChildren, ready_more, ready_children, ready_laid}
 use Rattle.map_walk.specs.declared.Trail.{Trail}
-use Rattle.map_walk.specs.declared.Tally.{Tally}
+use Rattle.map_walk.specs.Runs.{Total}
 use Rattle.map_walk.specs.declared.Kid.{Kid}
-use Rattle.map_walk.specs.declared.Walked.{Walked}
-use Rattle.map_walk.specs.declared.Walked.TheVariants as walked
 use Rattle.map_walk.specs.Walks.{Shaped, Small, Trails, Walks, KidOf, KidMade, KidFits, ArrayWalks, ChildrenWalk}
 use Rattle.map_walk.proofs.Runs.{Onto, onto_start, onto_end, onto_on, onto_fault}
 use Rattle.map_walk.proofs.Contents.{small_same, small_none}
+use Rattle.std.specs.Prelude.{Option, Some, None}
+use Rattle.expressions.specs.declared.Number.{Number}
+use Rattle.basics.specs.Judged.{Judged, fine, fault}
 
 -- 19, from numbers cut at the cap: a given stride is below the cap, and a default one is not below the size
 raised_above : (x s : ℕ) → 1 ≤ s → x ≤ raised x s
@@ -70,17 +66,17 @@ above_cut n size h = by (ltb n cap) refl
     by true e = less_cut n size (ltb-true n cap e)
     by false e = rw (cut_high n (ltb-false n cap e)) (le-ltb cap (cut size) (cut_bound size) ∙ sym (le-ltb n size h))
 
-stride_cut : (x : Suffix) (size step : ℕ) → stride_or x 1 ≤ 4294967295 → 1 ≤ step → ltb (cut (stride_or x (raised size step))) (cut size) ≡ ltb (stride_or x (raised size step)) size
-stride_cut suffix.Missing size step h p = above_cut (raised size step) size (raised_above size step p)
-stride_cut (suffix.Given mark n) size step h p = less_cut n.value size (omega (arith, h))
+stride_cut : (x : Option (ℕ × Number)) (size step : ℕ) → stride_or x 1 ≤ 4294967295 → 1 ≤ step → ltb (cut (stride_or x (raised size step))) (cut size) ≡ ltb (stride_or x (raised size step)) size
+stride_cut None size step h p = above_cut (raised size step) size (raised_above size step p)
+stride_cut (Some (mark, n)) size step h p = less_cut n.value size (omega (arith, h))
 
-short_cut : (m : ℕ) (a : Given) (s : Shape) (i : Instance) (end : Offset) → stride_or i.stride 1 ≤ 4294967295 → 1 ≤ or_else 1 a
+short_cut : (m : ℕ) (a : Option ℕ) (s : Shape) (i : Instance) (end : Offset) → stride_or i.stride 1 ≤ 4294967295 → 1 ≤ or_else 1 a
     → ltb (cut (laid m a s i end).stride) (cut s.size) ≡ ltb (laid m a s i end).stride s.size
 unfolding laid stride_of
 short_cut m a s i end h p = stride_cut i.stride s.size (or_else 1 a) h p
 
 -- the first of the instances that are left
-record Ahead (text t : List ℕ) (e : Extent) (row : ℕ) (a : Given) (i : ℕ) (rest : List Child) : Type 0 where
+record Ahead (text t : List ℕ) (e : Extent) (row : ℕ) (a : Option ℕ) (i : ℕ) (rest : List Child) : Type 0 where
   child : Child
   others : List Child
   whole : rest ≡ child ∷ others
@@ -89,7 +85,7 @@ record Ahead (text t : List ℕ) (e : Extent) (row : ℕ) (a : Given) (i : ℕ) 
   ready : ReadyChild text t e row a child
   children : ReadyChildren text t e row a others
 
-ahead_of : {text t : List ℕ} {e : Extent} {row : ℕ} {a : Given} {i to : ℕ} {rest : List Child} → i < to → i + length rest ≡ to → Block text t i rest → ReadyChildren text t e row a rest → Ahead text t e row a i rest
+ahead_of : {text t : List ℕ} {e : Extent} {row : ℕ} {a : Option ℕ} {i to : ℕ} {rest : List Child} → i < to → i + length rest ≡ to → Block text t i rest → ReadyChildren text t e row a rest → Ahead text t e row a i rest
 ahead_of l e block_end f = absurd (omega arith)
 ahead_of l e (block_on {c = c} {cs = cs} x b) (ready_more y f) = record { child = c; others = cs; whole = refl; entry = x; block = b; ready = y; children = f }
 
@@ -97,7 +93,7 @@ none_left : {text t : List ℕ} {i to : ℕ} {rest : List Child} → to ≤ i �
 none_left l e block_end = refl
 none_left l e (block_on x b) = absurd (omega arith)
 
-module _ (content : ℕ → Offset → List PathStep → List Visit) (shapes : List Shape) (path : List PathStep) (base : Offset) (m : ℕ) (a : Given) (end : Offset) where
+module _ (content : ℕ → Offset → List PathStep → List Visit) (shapes : List Shape) (path : List PathStep) (base : Offset) (m : ℕ) (a : Option ℕ) (end : Offset) where
   children_none : {cs : List Child} → cs ≡ [] → child_visits content shapes path base cs (laid_from m a shapes end cs) ≡ []
   unfolding child_visits
   children_none e = rw e
@@ -114,11 +110,11 @@ abbrev body_of : List ℕ → List ℕ → Extent → ℕ → List Child
 body_of text t e row = (definition_of (known text t e) row).instances
 
 -- the elements of some instances, laid behind an offset
-abbrev walk_of : List ℕ → List ℕ → Extent → ℕ → Given → List PathStep → Offset → Offset → List Child → List Visit
+abbrev walk_of : List ℕ → List ℕ → Extent → ℕ → Option ℕ → List PathStep → Offset → Offset → List Child → List Visit
 walk_of text t e levels a path address end cs =
     child_visits (visits_in levels e.mode (known text t e) (all_shapes text t e)) (all_shapes text t e) path address cs (laid_from e.mode a (all_shapes text t e) end cs)
 
-pub record Walking (text t before : List ℕ) (e : Extent) (levels row : ℕ) (a : Given) (base : Offset) (trail : Trail) (start : Tally) (to i : ℕ) (end : Offset) (tally : Tally) (log : List ℕ) : Type 0 where
+pub record Walking (text t before : List ℕ) (e : Extent) (levels row : ℕ) (a : Option ℕ) (base : Offset) (trail : Trail) (start : Total) (to i : ℕ) (end : Offset) (tally : Total) (log : List ℕ) : Type 0 where
   pub small : Small tally
   pub long : length log ≡ length before
   pub rest : List Child
@@ -130,10 +126,7 @@ pub record Walking (text t before : List ℕ) (e : Extent) (levels row : ℕ) (a
   pub each : (path : List PathStep) (address : Offset) → Trails trail path → base ≡ cut_offset address
       → Onto (known text t e) (all_shapes text t e) before start (walk_of text t e levels a path address bottom (body_of text t e row)) log tally (walk_of text t e levels a path address behind rest)
 
-pub span_low : (text t : List ℕ) {s : List ℕ} {e : Extent} (row : ℕ) {from to : ℕ} → Shaped text t s e → row < e.rows → (from ≡ entries_at + first_in t row) × (to ≡ from + count_in t row) → to ≤ size
-span_low text t {s} {e} row sh low span = omega (arith, span.0, span.1, ready_within text t e row sh.ready low)
-
-module _ (text t before : List ℕ) (e : Extent) (levels row : ℕ) (a : Given) (base : Offset) (trail : Trail) (start : Tally) where
+module _ (text t before : List ℕ) (e : Extent) (levels row : ℕ) (a : Option ℕ) (base : Offset) (trail : Trail) (start : Total) where
   pub walking_start : {s : List ℕ} {from to : ℕ} → Shaped text t s e → row < e.rows → GroupRow t row a → Small start → (from ≡ entries_at + first_in t row) × (to ≡ from + count_in t row)
       → Walking text t before e levels row a base trail start to from (record { 0 = 0 }) start before
   walking_start {s} {from} {to} sh low g small span =
@@ -149,11 +142,11 @@ module _ (text t before : List ℕ) (e : Extent) (levels row : ℕ) (a : Given) 
         each = λ path address tr b. onto_start;
       }
 
-  module _ {to i : ℕ} {end : Offset} {tally : Tally} {log : List ℕ} (g : Walking text t before e levels row a base trail start to i end tally log) where
+  module _ {to i : ℕ} {end : Offset} {tally : Total} {log : List ℕ} (g : Walking text t before e levels row a base trail start to i end tally log) where
     pub walking_low : end.0 ≤ cap
     walking_low = rw g.cut_end (cut_bound g.behind.0)
 
-    pub walking_end : to ≤ i → ChildrenWalk text t before log e levels row a base trail start (walked.Done tally)
+    pub walking_end : to ≤ i → ChildrenWalk text t before log e levels row a base trail start (fine tally)
     walking_end h =
         let z : g.rest ≡ [] = none_left h g.until g.block in
         record {
@@ -163,25 +156,22 @@ module _ (text t before : List ℕ) (e : Extent) (levels row : ℕ) (a : Given) 
         }
 
     module _ (h : i < to) where
-      pub walking_falls : to - (i + 1) < to - i
-      walking_falls = omega (arith, h)
-
       ahead : Ahead text t e row a i g.rest
       ahead = ahead_of h g.until g.block g.children
 
-      module _ {y : ChildReading} (r : y ≡ child_in text (cell_of t i)) where
-        same_child : y ≡ child_reading.Done ahead.child.type ahead.child.instance
+      module _ {y : Judged (ℕ × Instance)} (r : y ≡ child_in text (cell_of t i)) where
+        same_child : y ≡ fine (ahead.child.type, ahead.child.instance)
         same_child = r ∙ child_entry text (cell_of t i) ahead.entry
 
-        pub walking_stop : {n q : ℕ} {w : Walked} → y ≡ child_reading.Refused n q → ChildrenWalk text t before log e levels row a base trail start w
-        walking_stop f = absurd (let w = same_child in let z : ◌≡◌ {A = ℕ} 0 1 = cc in omega arith)
+        pub walking_stop : {n q : ℕ} {w : Judged Total} → y ≡ fault n q → ChildrenWalk text t before log e levels row a base trail start w
+        walking_stop f = let w = same_child in absurd cc
 
-        module _ {s : List ℕ} (sh : Shaped text t s e) (low : row < e.rows) {it : Instance} {k : ℕ} {shape : Shape} (d : y ≡ child_reading.Done k it) (z : shape ≡ shape_in s k) where
+        module _ {s : List ℕ} (sh : Shaped text t s e) (low : row < e.rows) {it : Instance} {k : ℕ} {shape : Shape} (d : y ≡ fine (k, it)) (z : shape ≡ shape_in s k) where
           same_instance : it ≡ ahead.child.instance
-          same_instance = let w = same_child in cc
+          same_instance = (fine_parts (sym d ∙ same_child)).1
 
           same_type : k ≡ ahead.child.type
-          same_type = let w = same_child in cc
+          same_type = (fine_parts (sym d ∙ same_child)).0
 
           type_low : ahead.child.type < e.rows
           type_low = omega (arith, ahead.ready.below, low)
@@ -235,7 +225,7 @@ module _ (text t before : List ℕ) (e : Extent) (levels row : ℕ) (a : Given) 
                         ∙ ap (λ (v : Bool). is_array ahead.child.instance.array && v) w;
                   }
 
-              module _ {after : List ℕ} {q : Walked} (w : ArrayWalks text t log after e levels kid trail tally q) where
+              module _ {after : List ℕ} {q : Judged Total} (w : ArrayWalks text t log after e levels kid trail tally q) where
                 abbrev elements_ahead : List PathStep → Offset → List Visit
                 elements_ahead path address =
                     element_visits (visits_in levels e.mode (known text t e) (all_shapes text t e) ahead.child.type) path ahead.child address (shape_at (all_shapes text t e) ahead.child.type) whole 0
@@ -250,14 +240,14 @@ module _ (text t before : List ℕ) (e : Extent) (levels row : ℕ) (a : Given) 
                 walks : (path : List PathStep) (address : Offset) → Trails trail path → base ≡ cut_offset address → Walks (known text t e) (all_shapes text t e) log after tally (elements_ahead path address) q
                 walks path address tr b = w.each path ahead.child whole address tr (kid_is address b)
 
-                pub walking_fault : {v : ℕ} → q ≡ walked.Refused v → ChildrenWalk text t before after e levels row a base trail start (walked.Refused v)
+                pub walking_fault : {n v : ℕ} → q ≡ fault n v → ChildrenWalk text t before after e levels row a base trail start (fault n v)
                 walking_fault l =
                     record {
                       small = small_none;
                       each = λ path address tr b. onto_fault (elements_ahead path address) (walk_of text t e levels a path address whole.end ahead.others) (next path address tr b) (walks path address tr b) l;
                     }
 
-                pub walking_on : {v : Tally} → length after ≡ length log → q ≡ walked.Done v → Walking text t before e levels row a base trail start to (i + 1) u.end v after
+                pub walking_on : {v : Total} → length after ≡ length log → q ≡ fine v → Walking text t before e levels row a base trail start to (i + 1) u.end v after
                 walking_on {v} long l =
                     record {
                       small = w.small v l;

@@ -5,11 +5,8 @@ use mathlib.Core.List.{List, [], ◌∷◌}
 use Prim.Native.Nat.{ℕ, ◌+◌, ◌-◌, ◌*◌, ◌≤◌, ◌<◌}
 use native.Mathlib.Omega.{arith}
 use lib.ListN.{length}
-use Rattle.basics.specs.Judged.{first_of}
-use Rattle.basics.specs.declared.Fault.{Fault}
-use Rattle.basics.specs.declared.Given.{Given}
+use Rattle.basics.specs.Judged.{first_of, Verdict, Judged, fine, fault}
 use Rattle.fields.specs.declared.Offset.{Offset}
-use Rattle.fields.specs.declared.FieldType.{FieldType}
 use Rattle.fields.specs.declared.Register.{Register}
 use Rattle.components.specs.declared.Component.{Component}
 use Rattle.components.specs.declared.Component.TheVariants as component
@@ -31,11 +28,8 @@ use Rattle.sizes.specs.Shapes.{shape_in, all_shapes}
 use Rattle.sizes.proofs.Rows.{RowFits, width_range}
 use Rattle.sizes.proofs.Laws.{ready_is_row, ready_row, ready_count, ready_span}
 use Rattle.map_walk.specs.declared.Trail.{Trail}
-use Rattle.map_walk.specs.declared.Tally.{Tally}
 use Rattle.map_walk.specs.declared.Element.{Element}
-use Rattle.map_walk.specs.declared.Walked.{Walked}
-use Rattle.map_walk.specs.declared.Walked.TheVariants as walked
-use Rattle.map_walk.specs.Runs.{log_row}
+use Rattle.map_walk.specs.Runs.{Total, log_row}
 use Rattle.map_walk.specs.Walks.{Shaped, Small, IsRegisterOf, of_register, IsRegisterRow, close_fault, place_fault, GroupVisited, visit_of, VisitWalks}
 use Rattle.map_walk.proofs.Visited.{close_same, place_same, group_on, register_many, register_fields, register_on}
 
@@ -54,7 +48,7 @@ register_eight m shapes cs of_register (register_fits {width = width} {access = 
 register_is : {c : Component} → IsRegisterOf c → is_register c ≡ true
 register_is of_register = refl
 
-pub answer_same : {r : Walked} {u v : Tally} → r ≡ walked.Done u → r ≡ walked.Done v → u ≡ v
+pub answer_same : {r : Judged Total} {u v : Total} → r ≡ fine u → r ≡ fine v → u ≡ v
 answer_same e f = cc
 
 module _ (text t : List ℕ) (e : Extent) (row : ℕ) (ready : Ready text t e) (low : row < e.rows) where
@@ -75,25 +69,25 @@ module _ (text t : List ℕ) (e : Extent) (row : ℕ) (ready : Ready text t e) (
 pub shaped_span : (text t s : List ℕ) (e : Extent) (row : ℕ) → Shaped text t s e → row < e.rows → (row < definition_limit) × (first_in t row + count_in t row ≤ instance_room)
 shaped_span text t s e row sh low = ready_span text t e row sh.ready low
 
-module _ (text t s : List ℕ) (e : Extent) (x : Element) (tally : Tally) (sh : Shaped text t s e) (low : x.row < e.rows) (small : Small tally) where
+module _ (text t s : List ℕ) (e : Extent) (x : Element) (tally : Total) (sh : Shaped text t s e) (low : x.row < e.rows) (small : Small tally) where
   module _ {from to : ℕ} (span : (from ≡ entries_at + first_in t x.row) × (to ≡ from + count_in t x.row)) where
     fields_same : tally.fields + (to - from) ≡ tally.fields + length (definition_of (known text t e) x.row).instances
     fields_same = omega (arith, span.1, ready_count text t e x.row sh.ready low)
 
     -- 18
-    pub register_full : {log : List ℕ} {trail : Trail} → IsRegisterRow t x.row → register_limit ≤ tally.registers → VisitWalks text t log log e x trail tally (walked.Refused x.name.start)
+    pub register_full : {log : List ℕ} {trail : Trail} → IsRegisterRow t x.row → register_limit ≤ tally.registers → VisitWalks text t log log e x trail tally (fault 18 x.name.start)
     register_full {log} r h =
         record {
-          small = λ u q. absurd (let z : ◌≡◌ {A = ℕ} 0 1 = cc in omega arith);
+          small = λ u q. absurd cc;
           each = λ path index address tr a.
               let v : Visit = visit_of x path index address in
               register_many (known text t e) (all_shapes text t e) log tally v (known_register text t e x.row sh.ready low r) h;
         }
 
-    pub register_fielded : {log : List ℕ} {trail : Trail} → IsRegisterRow t x.row → field_limit < tally.fields + (to - from) → VisitWalks text t log log e x trail tally (walked.Refused x.name.start)
+    pub register_fielded : {log : List ℕ} {trail : Trail} → IsRegisterRow t x.row → field_limit < tally.fields + (to - from) → VisitWalks text t log log e x trail tally (fault 18 x.name.start)
     register_fielded {log} r h =
         record {
-          small = λ u q. absurd (let z : ◌≡◌ {A = ℕ} 0 1 = cc in omega arith);
+          small = λ u q. absurd cc;
           each = λ path index address tr a.
               let v : Visit = visit_of x path index address in
               register_fields (known text t e) (all_shapes text t e) log tally v (known_register text t e x.row sh.ready low r) fields_same h;
@@ -111,10 +105,10 @@ module _ (text t s : List ℕ) (e : Extent) (x : Element) (tally : Tally) (sh : 
             rw (cut_low (shape_at (all_shapes text t e) x.row).size (omega (arith, k.size))) (omega (arith, k.size)),
           )
 
-      pub register_walked : {log after : List ℕ} {trail : Trail} {close place f g : Fault} → trail.depth ≤ nest_limit → tally.registers < register_limit → tally.fields + (to - from) ≤ field_limit
+      pub register_walked : {log after : List ℕ} {trail : Trail} {close place f g : Verdict} → trail.depth ≤ nest_limit → tally.registers < register_limit → tally.fields + (to - from) ≤ field_limit
           → after ≡ written log (tally.registers * log_width) (head_of x.address.0 x.row trail.depth ∷ trail.steps) → close ≡ close_fault x → f ≡ first_of tally.close close
           → place ≡ place_fault x shape → g ≡ first_of tally.misplaced place
-          → VisitWalks text t log after e x trail tally (walked.Done (record { registers = tally.registers + 1; fields = tally.fields + (to - from); close = f; misplaced = g }))
+          → VisitWalks text t log after e x trail tally (fine (record { registers = tally.registers + 1; fields = tally.fields + (to - from); close = f; misplaced = g }))
       unfolding log_row
       register_walked {log} {after} {trail} {close} {place} {f} {g} d m n w c p q o =
           record {
@@ -133,8 +127,8 @@ module _ (text t s : List ℕ) (e : Extent) (x : Element) (tally : Tally) (sh : 
           }
 
 -- an element that is no register
-module _ (text t s : List ℕ) (e : Extent) (x : Element) (tally : Tally) (sh : Shaped text t s e) (low : x.row < e.rows) (small : Small tally) where
-  pub group_walked : {log : List ℕ} {trail : Trail} {c : Component} {r : Walked} → trail.depth ≤ nest_limit → c ≡ component_in t x.row → is_register c ≡ false → GroupVisited tally x r
+module _ (text t s : List ℕ) (e : Extent) (x : Element) (tally : Total) (sh : Shaped text t s e) (low : x.row < e.rows) (small : Small tally) where
+  pub group_walked : {log : List ℕ} {trail : Trail} {c : Component} {r : Judged Total} → trail.depth ≤ nest_limit → c ≡ component_in t x.row → is_register c ≡ false → GroupVisited tally x r
       → VisitWalks text t log log e x trail tally r
   group_walked {log} d q n g =
       record {
@@ -150,11 +144,11 @@ module _ {c : Component} where
   pub register_row_lem : (t : List ℕ) (row : ℕ) {r : Register} → c ≡ component_in t row → c ≡ component.Register r → IsRegisterRow t row
   register_row_lem t row {r} e f = rw (← e, f) (of_register {r = r})
 
-  pub field_other : {f : FieldType} → c ≡ component.Field f → is_register c ≡ false
-  field_other e = rw e
-
-  pub regfile_other : {a : Given} → c ≡ component.Regfile a → is_register c ≡ false
-  regfile_other e = rw e
-
-  pub map_other : {a m : Given} → c ≡ component.Addrmap a m → is_register c ≡ false
-  map_other e = rw e
+  pub other_row : ((r : Register) → c ≡ component.Register r → ⊥) → is_register c ≡ false
+  other_row n = by c n
+    where
+      by : (d : Component) → ((r : Register) → d ≡ component.Register r → ⊥) → is_register d ≡ false
+      by (component.Field f) m = refl
+      by (component.Register r) m = absurd (m r refl)
+      by (component.Regfile a) m = refl
+      by (component.Addrmap a b) m = refl

@@ -6,13 +6,13 @@ use native.Mathlib.Omega.{arith}
 use lib.ListN.{length, set, length-append, length-map}
 use Rattle.parts.specs.declared.Name.{Name}
 use Rattle.basics.specs.Limits.{nest_limit}
-use Rattle.basics.specs.declared.Given.{Given}
 use Rattle.register_log.specs.Log.{step_of}
 use Rattle.map_rules.specs.Visits.{PathStep}
 use Rattle.map_walk.specs.declared.Trail.{Trail}
 use Rattle.rows.specs.Rows.{index_code, padded}
 use Rattle.map_walk.specs.Runs.{step_number, step_numbers}
 use Rattle.map_walk.specs.Walks.{Trails}
+use Rattle.std.specs.Prelude.{Option}
 
 set-padded : (n : ℕ) (xs : List ℕ) (y : ℕ) → length xs < n → set (padded n xs) (length xs) y ≡ padded n (xs ++ (y ∷ []))
 unfolding padded
@@ -27,7 +27,7 @@ numbers_more (p ∷ path) s = ap (λ (l : List ℕ). step_number p ∷ l) (numbe
 pub trails_none : {trail : Trail} → trail.depth ≡ 0 → trail.steps ≡ padded nest_limit [] → Trails trail []
 trails_none e f = record { depth = e; steps = f }
 
-pub trails_more : {trail r : Trail} (path : List PathStep) (name : Name) (g : Given) {index : ℕ} → Trails trail path → trail.depth < nest_limit → index ≡ index_code g
+pub trails_more : {trail r : Trail} (path : List PathStep) (name : Name) (g : Option ℕ) {index : ℕ} → Trails trail path → trail.depth < nest_limit → index ≡ index_code g
     → (r.depth ≡ trail.depth + 1) × (r.steps ≡ set trail.steps trail.depth (step_of name.start name.end index)) → Trails r (path ++ (record { name = name; index = g } ∷ []))
 trails_more {trail} path name g {index} t h e (f, s) =
     let n : length (step_numbers path) ≡ trail.depth = length-map path step_number ∙ sym t.depth in

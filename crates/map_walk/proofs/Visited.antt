@@ -7,11 +7,8 @@ use native.Mathlib.Omega.{arith}
 use lib.Dec.{eqb, ltb}
 use lib.ListN.{length}
 use borrow.Author.Tests.{lt-ltb, le-ltb, ltb-true, ltb-false}
-use Rattle.std.specs.Prelude.{if◌then◌else◌}
-use Rattle.basics.specs.Judged.{first_of, fine, unless}
-use Rattle.basics.specs.declared.Fault.{Fault}
-use Rattle.basics.specs.declared.Fault.TheVariants.{None, Refused}
-use Rattle.basics.specs.declared.Given.{Given}
+use Rattle.std.specs.Prelude.{if◌then◌else◌, Option}
+use Rattle.basics.specs.Judged.{first_of, fine, unless, Verdict, Accepted, Refused, Judged, fault}
 use Rattle.fields.specs.declared.Offset.{Offset}
 use Rattle.basics.specs.Slices.{written}
 use Rattle.cells.specs.Definitions.{Definition, definition_of}
@@ -23,15 +20,12 @@ use Rattle.layout.specs.Layout.{shape_at, cut_shape, cut_offset}
 use Rattle.basics.specs.Limits.{nest_limit, register_limit, field_limit, address_end}
 use Rattle.map_rules.specs.Visits.{PathStep, Visit}
 use Rattle.map_rules.specs.Whole.{is_register_visit, too_close, misplaced}
-use Rattle.map_walk.specs.declared.Tally.{Tally}
 use Rattle.map_walk.specs.declared.Element.{Element}
-use Rattle.map_walk.specs.declared.Walked.{Walked}
-use Rattle.map_walk.specs.declared.Walked.TheVariants as walked
-use Rattle.map_walk.specs.Runs.{is_too_many, tallied, run, log_row, logged_one, logged}
-use Rattle.map_walk.specs.Walks.{Small, Walks, walks_fault, walks_on, close_fault, place_fault, visit_of}
+use Rattle.map_walk.specs.Runs.{Total, is_too_many, tallied, run, log_row, logged_one, logged}
+use Rattle.map_walk.specs.Walks.{Small, Walks, close_fault, place_fault, visit_of}
 use Rattle.map_walk.proofs.Runs.{logged_step}
 
-pub close_same : (x : Element) (path : List PathStep) (index : Given) (address : Offset) → close_fault x ≡ too_close (visit_of x path index address ∷ [])
+pub close_same : (x : Element) (path : List PathStep) (index : Option ℕ) (address : Offset) → close_fault x ≡ too_close (visit_of x path index address ∷ [])
 unfolding close_fault too_close
 close_same x path index address = refl
 
@@ -53,26 +47,26 @@ place_tests address s g h = by (ltb address cap) refl
         or_true (not (eqb (cut address % cut s.access) 0)) (lt-ltb address_end (cut address + cut s.size) (omega (arith, z)))
         ∙ sym (or_true (not (eqb (address % s.access) 0)) (lt-ltb address_end (address + s.size) (omega (arith, l))))
 
-pub place_same : (table : List Definition) (shapes : List Shape) (x : Element) {s : Shape} (path : List PathStep) (index : Given) (address : Offset)
+pub place_same : (table : List Definition) (shapes : List Shape) (x : Element) {s : Shape} (path : List PathStep) (index : Option ℕ) (address : Offset)
     → is_register_visit table (visit_of x path index address) ≡ true → (shape_at shapes x.row).size < cap → (shape_at shapes x.row).access < cap
     → x.address ≡ cut_offset address → s ≡ cut_shape (shape_at shapes x.row) → place_fault x s ≡ misplaced table shapes (visit_of x path index address ∷ [])
 unfolding place_fault misplaced
 place_same table shapes x path index address r g h e f =
-    rw (r, e, f) (ap (λ (b : Bool). if b then Refused 20 x.name.start else None) (place_tests address.0 (shape_at shapes x.row) g h))
+    rw (r, e, f) (ap (λ (b : Bool). if b then Refused 20 x.name.start else Accepted) (place_tests address.0 (shape_at shapes x.row) g h))
 
 -- nothing behind a fault
-pub first_none : (a : Fault) → first_of a None ≡ a
-first_none None = refl
+pub first_none : (a : Verdict) → first_of a Accepted ≡ a
+first_none Accepted = refl
 first_none (Refused n p) = refl
 
-module _ (table : List Definition) (shapes : List Shape) (log : List ℕ) (t : Tally) (v : Visit) where
+module _ (table : List Definition) (shapes : List Shape) (log : List ℕ) (t : Total) (v : Visit) where
   -- 18: nothing is logged
-  many_stops : is_too_many table t v ≡ true → (vs : List Visit) → Walks table shapes log log t (v ∷ vs) (walked.Refused v.name.start)
+  many_stops : is_too_many table t v ≡ true → (vs : List Visit) → Walks table shapes log log t (v ∷ vs) (fault 18 v.name.start)
   unfolding run logged unless
-  many_stops e vs = walks_fault {p = v.name.start} (rw e) (rw e)
+  many_stops e vs = record { runs = rw e; logs = rw e }
 
   -- a path that is too long
-  pub deep_stops : nest_limit < length v.path → (vs : List Visit) → Walks table shapes log log t (v ∷ vs) (walked.Refused v.name.start)
+  pub deep_stops : nest_limit < length v.path → (vs : List Visit) → Walks table shapes log log t (v ∷ vs) (fault 18 v.name.start)
   unfolding is_too_many
   deep_stops h vs = many_stops (rw (lt-ltb nest_limit (length v.path) h)) vs
 
@@ -82,43 +76,43 @@ module _ (table : List Definition) (shapes : List Shape) (log : List ℕ) (t : T
   one_logged e = logged_step table shapes log t v [] e
 
   module _ (h : length v.path ≤ nest_limit) where
-    run_one : (b : Bool) {u : Tally} → is_too_many table t v ≡ b → tallied table shapes t v ≡ u → run table shapes t (v ∷ []) ≡ unless b 18 v.name.start (fine u)
+    run_one : (b : Bool) {u : Total} → is_too_many table t v ≡ b → tallied table shapes t v ≡ u → run table shapes t (v ∷ []) ≡ unless b 18 v.name.start (fine u)
     unfolding run
     run_one b e f = rw (e, f)
 
-    pub group_on : {r : Walked} {close : Fault} → is_register_visit table v ≡ false → Small t → close ≡ too_close (v ∷ [])
-        → r ≡ walked.Done (record { registers = t.registers; fields = t.fields; close = first_of t.close close; misplaced = t.misplaced }) → Walks table shapes log log t (v ∷ []) r
+    pub group_on : {r : Judged Total} {close : Verdict} → is_register_visit table v ≡ false → Small t → close ≡ too_close (v ∷ [])
+        → r ≡ fine (record { registers = t.registers; fields = t.fields; close = first_of t.close close; misplaced = t.misplaced }) → Walks table shapes log log t (v ∷ []) r
     unfolding is_too_many tallied misplaced unless
     group_on {close = close} g s c e =
         let few : is_too_many table t v ≡ false =
         rw (le-ltb nest_limit (length v.path) h, g, le-ltb register_limit t.registers s.registers, le-ltb field_limit t.fields s.fields) in
-        let u : Tally = record { registers = t.registers; fields = t.fields; close = first_of t.close close; misplaced = t.misplaced } in
+        let u : Total = record { registers = t.registers; fields = t.fields; close = first_of t.close close; misplaced = t.misplaced } in
         let same : tallied table shapes t v ≡ u = rw (g, c, first_none t.misplaced) in
-        rw e (walks_on {u = u} (run_one false few same) (sym (one_logged few ∙ ap (λ (b : Bool). if b then written log (t.registers * log_width) (log_row v) else log) g)))
+        rw e (record { runs = run_one false few same; logs = sym (one_logged few ∙ ap (λ (b : Bool). if b then written log (t.registers * log_width) (log_row v) else log) g) })
 
   module _ (g : is_register_visit table v ≡ true) where
-    pub register_many : register_limit ≤ t.registers → Walks table shapes log log t (v ∷ []) (walked.Refused v.name.start)
+    pub register_many : register_limit ≤ t.registers → Walks table shapes log log t (v ∷ []) (fault 18 v.name.start)
     unfolding is_too_many
     register_many m = many_stops (rw (g, lt-ltb register_limit (suc t.registers) (omega arith), or_true (ltb nest_limit (length v.path)) {c = true} refl)) []
 
     module _ {fields : ℕ} (f : fields ≡ t.fields + length (definition_of table v.type).instances) where
-      pub register_fields : field_limit < fields → Walks table shapes log log t (v ∷ []) (walked.Refused v.name.start)
+      pub register_fields : field_limit < fields → Walks table shapes log log t (v ∷ []) (fault 18 v.name.start)
       unfolding is_too_many
       register_fields m =
           let e : (ltb nest_limit (length v.path) || (ltb register_limit (suc t.registers) || ltb field_limit (t.fields + length (definition_of table v.type).instances))) ≡ true =
           or_true (ltb nest_limit (length v.path)) (or_true (ltb register_limit (suc t.registers)) (rw (← f) (lt-ltb field_limit fields m))) in
           many_stops (rw (g, e)) []
 
-      pub register_on : length v.path ≤ nest_limit → t.registers < register_limit → fields ≤ field_limit → {after : List ℕ} {r : Walked} {close place : Fault} {n : ℕ}
+      pub register_on : length v.path ≤ nest_limit → t.registers < register_limit → fields ≤ field_limit → {after : List ℕ} {r : Judged Total} {close place : Verdict} {n : ℕ}
           → after ≡ written log (t.registers * log_width) (log_row v) → close ≡ too_close (v ∷ []) → place ≡ misplaced table shapes (v ∷ [])
-          → n ≡ t.registers + 1 → r ≡ walked.Done (record { registers = n; fields = fields; close = first_of t.close close; misplaced = first_of t.misplaced place })
+          → n ≡ t.registers + 1 → r ≡ fine (record { registers = n; fields = fields; close = first_of t.close close; misplaced = first_of t.misplaced place })
           → Walks table shapes log after t (v ∷ []) r
       unfolding is_too_many tallied unless
       register_on h m k {after = after} {close = close} {place = place} {n = n} w c d o e =
           let k' : t.fields + length (definition_of table v.type).instances ≤ field_limit = rw (← f) k in
           let few : is_too_many table t v ≡ false =
           rw (le-ltb nest_limit (length v.path) h, g, le-ltb register_limit (suc t.registers) m, le-ltb field_limit (t.fields + length (definition_of table v.type).instances) k') in
-          let u : Tally = record { registers = n; fields = fields; close = first_of t.close close; misplaced = first_of t.misplaced place } in
+          let u : Total = record { registers = n; fields = fields; close = first_of t.close close; misplaced = first_of t.misplaced place } in
           let q : n ≡ suc t.registers = omega (arith, o) in
           let same : tallied table shapes t v ≡ u = rw (g, c, d, q, f) in
-          rw e (walks_on {u = u} (run_one h false few same) (w ∙ sym (one_logged few ∙ ap (λ (b : Bool). if b then written log (t.registers * log_width) (log_row v) else log) g)))
+          rw e (record { runs = run_one h false few same; logs = w ∙ sym (one_logged few ∙ ap (λ (b : Bool). if b then written log (t.registers * log_width) (log_row v) else log) g) })

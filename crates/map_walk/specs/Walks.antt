@@ -1,12 +1,9 @@
 -- What the functions of the walk are asked for, and what they answer.
-use Rattle.std.specs.Prelude.{◌≡◌, false, ◌&&◌, ◌||◌, not, List, [], ◌∷◌, ◌++◌, ℕ, suc, ◌+◌, ◌*◌, ◌%◌, ◌<◌, ◌≤◌, eqb, ltb, length, get_or}
+use Rattle.std.specs.Prelude.{◌≡◌, false, ◌&&◌, ◌||◌, not, List, [], ◌∷◌, ◌++◌, ℕ, suc, ◌+◌, ◌*◌, ◌%◌, ◌<◌, ◌≤◌, eqb, ltb, length, get_or, Option}
 use Rattle.std.specs.Prelude.{if◌then◌else◌}
 use Rattle.parts.specs.declared.Instance.{Instance}
-use Rattle.basics.specs.Judged.{first_of, fault, fine}
+use Rattle.basics.specs.Judged.{first_of, fault, fine, Verdict, Accepted, Refused, Judged}
 use Rattle.suffixes.specs.Suffixes.{is_array}
-use Rattle.basics.specs.declared.Fault.{Fault}
-use Rattle.basics.specs.declared.Fault.TheVariants.{None, Refused}
-use Rattle.basics.specs.declared.Given.{Given}
 use Rattle.fields.specs.declared.Offset.{Offset}
 use Rattle.components.specs.declared.Component.{Component}
 use Rattle.components.specs.declared.Component.TheVariants as component
@@ -27,16 +24,12 @@ use Rattle.basics.specs.Limits.{nest_limit, register_limit, field_limit, address
 use Rattle.map_rules.specs.Visits.{PathStep, Visit, element_visits, child_visits, visits_in}
 use Rattle.map_walk.specs.declared.Trail.{Trail}
 use Rattle.map_walk.specs.declared.Site.{Site}
-use Rattle.map_walk.specs.declared.Tally.{Tally}
 use Rattle.map_walk.specs.declared.Kid.{Kid}
 use Rattle.map_walk.specs.declared.Element.{Element}
 use Rattle.map_rules.specs.Whole.{too_many, too_close, misplaced, registers_among, fields_among}
-use Rattle.map_walk.specs.declared.Surveyed.{Surveyed}
-use Rattle.map_walk.specs.declared.Surveyed.TheVariants as surveyed
-use Rattle.map_walk.specs.declared.Walked.{Walked}
-use Rattle.map_walk.specs.declared.Walked.TheVariants as walked
 use Rattle.rows.specs.Rows.{padded, index_code}
-use Rattle.map_walk.specs.Runs.{nothing_tallied, step_numbers, run, logged}
+use Rattle.map_walk.specs.Runs.{Total, nothing_tallied, step_numbers, run, logged}
+use Rattle.map_walk.specs.declared.Counts.{Counts}
 
 -- cells that hold definitions, with their shapes, and with long instances on the shelves
 pub record Shaped (text t s : List ℕ) (e : Extent) : Type 0 where
@@ -51,7 +44,7 @@ pub record SiteFits (e : Extent) (site : Site) : Type 0 where
   pub depth : site.trail.depth ≤ nest_limit
 
 -- counts that the limits keep
-pub record Small (t : Tally) : Type 0 where
+pub record Small (t : Total) : Type 0 where
   pub registers : t.registers ≤ register_limit
   pub fields : t.fields ≤ field_limit
 
@@ -60,10 +53,10 @@ pub record Trails (trail : Trail) (path : List PathStep) : Type 0 where
   pub depth : trail.depth ≡ length path
   pub steps : trail.steps ≡ padded nest_limit (step_numbers path)
 
--- the log and the answer after these elements: 18 at one of them, or the counts
-pub data Walks (table : List Definition) (shapes : List Shape) (before after : List ℕ) (t : Tally) (vs : List Visit) : Walked → Type 0 where
-  walks_fault : {p : ℕ} → run table shapes t vs ≡ fault 18 p → after ≡ logged table shapes before t vs → Walks table shapes before after t vs (walked.Refused p)
-  walks_on : {u : Tally} → run table shapes t vs ≡ fine u → after ≡ logged table shapes before t vs → Walks table shapes before after t vs (walked.Done u)
+-- the answer and the log after these elements: 18 at one of them, or the counts
+pub record Walks (table : List Definition) (shapes : List Shape) (before after : List ℕ) (t : Total) (vs : List Visit) (r : Judged Total) : Type 0 where
+  pub runs : run table shapes t vs ≡ r
+  pub logs : after ≡ logged table shapes before t vs
 
 -- a row of a register
 pub data IsRegisterOf : Component → Type 0 where
@@ -73,37 +66,37 @@ abbrev pub IsRegisterRow : List ℕ → ℕ → Type 0
 IsRegisterRow t row = IsRegisterOf (component_in t row)
 
 -- 19 and 20 of an element, from its numbers cut at the cap
-unfoldable pub close_fault : Element → Fault
-close_fault x = if x.short then Refused 19 x.name.start else None
+unfoldable pub close_fault : Element → Verdict
+close_fault x = if x.short then Refused 19 x.name.start else Accepted
 
-unfoldable pub place_fault : Element → Shape → Fault
-place_fault x s = if not (eqb (x.address.0 % s.access) 0) || ltb address_end (x.address.0 + s.size) then Refused 20 x.name.start else None
+unfoldable pub place_fault : Element → Shape → Verdict
+place_fault x s = if not (eqb (x.address.0 % s.access) 0) || ltb address_end (x.address.0 + s.size) then Refused 20 x.name.start else Accepted
 
 -- what `visit_group` answers
-abbrev pub GroupVisited : Tally → Element → Walked → Type 0
-GroupVisited t x r = r ≡ walked.Done (record { registers = t.registers; fields = t.fields; close = first_of t.close (close_fault x); misplaced = t.misplaced })
+abbrev pub GroupVisited : Total → Element → Judged Total → Type 0
+GroupVisited t x r = r ≡ fine (record { registers = t.registers; fields = t.fields; close = first_of t.close (close_fault x); misplaced = t.misplaced })
 
 -- an element without its content
-abbrev pub visit_of : Element → List PathStep → Given → Offset → Visit
+abbrev pub visit_of : Element → List PathStep → Option ℕ → Offset → Visit
 visit_of x path index address =
     record { path = path ++ (record { name = x.name; index = index } ∷ []); name = x.name; type = x.row; address = address; short = x.short }
 
 -- what `visit` does, for each path and address that it is asked for; its trail has the element's own step
-pub record VisitWalks (text t before after : List ℕ) (e : Extent) (x : Element) (trail : Trail) (tally : Tally) (r : Walked) : Type 0 where
-  pub small : (u : Tally) → r ≡ walked.Done u → Small u
-  pub each : (path : List PathStep) (index : Given) (address : Offset) → Trails trail (path ++ (record { name = x.name; index = index } ∷ [])) → x.address ≡ cut_offset address
+pub record VisitWalks (text t before after : List ℕ) (e : Extent) (x : Element) (trail : Trail) (tally : Total) (r : Judged Total) : Type 0 where
+  pub small : (u : Total) → r ≡ fine u → Small u
+  pub each : (path : List PathStep) (index : Option ℕ) (address : Offset) → Trails trail (path ++ (record { name = x.name; index = index } ∷ [])) → x.address ≡ cut_offset address
       → Walks (known text t e) (all_shapes text t e) before after tally (visit_of x path index address ∷ []) r
 
 -- what `walk_content` does: the content of a definition at an address
-pub record ContentWalks (text t before after : List ℕ) (e : Extent) (levels row : ℕ) (base : Offset) (trail : Trail) (tally : Tally) (r : Walked) : Type 0 where
-  pub small : (u : Tally) → r ≡ walked.Done u → Small u
+pub record ContentWalks (text t before after : List ℕ) (e : Extent) (levels row : ℕ) (base : Offset) (trail : Trail) (tally : Total) (r : Judged Total) : Type 0 where
+  pub small : (u : Total) → r ≡ fine u → Small u
   pub each : (path : List PathStep) (address : Offset) → Trails trail path → base ≡ cut_offset address
       → Walks (known text t e) (all_shapes text t e) before after tally (visits_in levels e.mode (known text t e) (all_shapes text t e) row address path) r
 
 -- what `walk_element` does: an element, and its content
-pub record ElementWalks (text t before after : List ℕ) (e : Extent) (levels : ℕ) (x : Element) (trail : Trail) (tally : Tally) (r : Walked) : Type 0 where
-  pub small : (u : Tally) → r ≡ walked.Done u → Small u
-  pub each : (path : List PathStep) (index : Given) (address : Offset) → Trails trail path → x.index ≡ index_code index → x.address ≡ cut_offset address
+pub record ElementWalks (text t before after : List ℕ) (e : Extent) (levels : ℕ) (x : Element) (trail : Trail) (tally : Total) (r : Judged Total) : Type 0 where
+  pub small : (u : Total) → r ≡ fine u → Small u
+  pub each : (path : List PathStep) (index : Option ℕ) (address : Offset) → Trails trail path → x.index ≡ index_code index → x.address ≡ cut_offset address
       → Walks (known text t e) (all_shapes text t e) before after tally
       (visit_of x path index address ∷ visits_in levels e.mode (known text t e) (all_shapes text t e) x.row address (path ++ (record { name = x.name; index = index } ∷ []))) r
 
@@ -131,15 +124,15 @@ pub record KidFits (e : Extent) (kid : Kid) : Type 0 where
   pub stride : kid.stride ≤ cap
   pub count : elements kid.instance.array ≤ factor_bound
 
-pub record ArrayWalks (text t before after : List ℕ) (e : Extent) (levels : ℕ) (kid : Kid) (trail : Trail) (tally : Tally) (r : Walked) : Type 0 where
-  pub small : (u : Tally) → r ≡ walked.Done u → Small u
+pub record ArrayWalks (text t before after : List ℕ) (e : Extent) (levels : ℕ) (kid : Kid) (trail : Trail) (tally : Total) (r : Judged Total) : Type 0 where
+  pub small : (u : Total) → r ≡ fine u → Small u
   pub each : (path : List PathStep) (c : Child) (l : Laid) (address : Offset) → Trails trail path → KidOf kid c (shape_at (all_shapes text t e) c.type) l address
       → Walks (known text t e) (all_shapes text t e) before after tally
       (element_visits (visits_in levels e.mode (known text t e) (all_shapes text t e) c.type) path c address (shape_at (all_shapes text t e) c.type) l 0 (elements c.instance.array)) r
 
 -- what `walk_children` does: the instances of a row's body, laid one after another
-pub record ChildrenWalk (text t before after : List ℕ) (e : Extent) (levels row : ℕ) (alignment : Given) (base : Offset) (trail : Trail) (tally : Tally) (r : Walked) : Type 0 where
-  pub small : (u : Tally) → r ≡ walked.Done u → Small u
+pub record ChildrenWalk (text t before after : List ℕ) (e : Extent) (levels row : ℕ) (alignment : Option ℕ) (base : Offset) (trail : Trail) (tally : Total) (r : Judged Total) : Type 0 where
+  pub small : (u : Total) → r ≡ fine u → Small u
   pub each : (path : List PathStep) (address : Offset) → Trails trail path → base ≡ cut_offset address
       → Walks (known text t e) (all_shapes text t e) before after tally
       (child_visits (visits_in levels e.mode (known text t e) (all_shapes text t e)) (all_shapes text t e) path address (definition_of (known text t e) row).instances
@@ -150,7 +143,7 @@ abbrev pub elements_of : List ℕ → List ℕ → Extent → ℕ → List Visit
 elements_of text t e row = visits_in (suc nest_limit) e.mode (known text t e) (all_shapes text t e) row bottom []
 
 -- what `walk_map` does
-pub record MapWalks (text t before after : List ℕ) (e : Extent) (row : ℕ) (r : Walked) : Type 0 where
+pub record MapWalks (text t before after : List ℕ) (e : Extent) (row : ℕ) (r : Judged Total) : Type 0 where
   pub walks : Walks (known text t e) (all_shapes text t e) before after nothing_tallied
       (elements_of text t e row) r
 
@@ -174,15 +167,15 @@ abbrev pub registers_of : List ℕ → List ℕ → Extent → ℕ → List Visi
 registers_of text t e row = registers_among (known text t e) (elements_of text t e row)
 
 -- the first fault by 18, then 19, then 20
-abbrev pub survey_fault : List Definition → List Shape → List Visit → Fault
+abbrev pub survey_fault : List Definition → List Shape → List Visit → Verdict
 survey_fault table shapes vs = first_of (too_many table 0 0 vs) (first_of (too_close vs) (misplaced table shapes vs))
 
 -- what `survey` answers: this fault, or how many registers and fields there are
-abbrev pub survey_answer : Fault → ℕ → ℕ → Surveyed
-survey_answer (Refused n p) registers fields = surveyed.Refused n p
-survey_answer None registers fields = surveyed.Done (record { registers = registers; fields = fields })
+abbrev pub survey_answer : Verdict → ℕ → ℕ → Judged Counts
+survey_answer (Refused n p) registers fields = fault n p
+survey_answer Accepted registers fields = fine (record { registers = registers; fields = fields })
 
-abbrev pub survey_of : List ℕ → List ℕ → Extent → ℕ → Surveyed
+abbrev pub survey_of : List ℕ → List ℕ → Extent → ℕ → Judged Counts
 survey_of text t e row =
     let vs = elements_of text t e row in
     survey_answer (survey_fault (known text t e) (all_shapes text t e) vs) (length (registers_of text t e row)) (fields_among (known text t e) vs)

@@ -2,6 +2,7 @@
 #![tactic(auto)]
 
 ghost use Rattle.std.specs.Prelude.{◌≡◌, ◌∷◌, ◌+◌, ◌-◌, ◌*◌, ◌<◌, ◌≤◌, set};
+ghost use Rattle.basics.specs.Judged.{fine, judged, verdict};
 ghost use Rattle.basics.specs.Slices.{written};
 ghost use Rattle.register_log.specs.Log.{log_width, head_of, step_of};
 ghost use Rattle.capped.specs.Offsets.{cap};
@@ -9,10 +10,10 @@ ghost use Rattle.sizes.specs.Shapes.{GroupRow};
 ghost use Rattle.map_rules.specs.Visits.{index_in};
 ghost use Rattle.basics.specs.Limits.{nest_limit, register_limit, definition_limit, index_bound, sum_bound};
 ghost use Rattle.rows.specs.Rows.{index_code};
+ghost use Rattle.map_walk.specs.Runs.{total_of, walked};
 ghost use Rattle.map_walk.specs.Walks.{Shaped, SiteFits, Small, IsRegisterRow, close_fault, place_fault, GroupVisited, KidMade, MapWalks, survey_of, logged_in, VisitWalks, ContentWalks, ElementWalks, KidFits, ArrayWalks, ChildrenWalk};
 
-use basics::{Fault, Given};
-use cells::ChildReading;
+use basics::{Refusal, Rule};
 use components::Component;
 use fields::Offset;
 use layout::{Laid, Shape};
@@ -31,8 +32,8 @@ pub struct Trail {
 pub struct Tally {
     pub registers: usize,
     pub fields: usize,
-    pub close: Fault,
-    pub misplaced: Fault,
+    pub close: Result<(), Refusal>,
+    pub misplaced: Result<(), Refusal>,
 }
 
 // An instance that is laid: its type's row, its first element's address, its stride, and whether that is below its size.
@@ -71,29 +72,14 @@ pub struct Counts {
     pub fields: usize,
 }
 
-// A place that breaks 18, or the counts so far.
-#[derive(Clone, Copy)]
-pub enum Walked {
-    Refused(usize),
-    Done(Tally),
-}
-
-// The first fault by 18, 19 and 20, or how many registers and fields there are.
-#[derive(Clone, Copy)]
-pub enum Surveyed {
-    Refused(u8, usize),
-    Done(Counts),
-}
-
 // The index of an array's element, and one more; 0 where there is no array.
 fn index_of(array: Array, k: u64) -> u64
     requires { k < sum_bound }
     ensures { result ≡ index_code (index_in array k) }
 {
     match array {
-        Array::Missing => 0,
         Array::Size(_, _) => k + 1,
-        Array::Range(_, _, _) => 0,
+        Array::Missing | Array::Range(_, _, _) => 0,
     }
 }
 
@@ -112,29 +98,30 @@ fn deeper(trail: Trail, name: Name, index: u64) -> Trail
 }
 
 // 19 for an element that is not as far from the next as it is large.
-fn close_fault(element: Element) -> Fault
-    ensures { result ≡ close_fault element }
+#[tactic(auto, unfolding(crate::specs::Walks::close_fault))]
+fn close_fault(element: Element) -> Result<(), Refusal>
+    ensures { verdict result ≡ close_fault element }
 {
-    let name = element.name;
     if element.short {
-        return Fault::Refused(19, name.start);
+        return Err(Rule::ShortStride.at(element.name.start));
     }
-    Fault::None
+    Ok(())
 }
 
 // 20 for a register that is not on a multiple of its access bytes, or ends above 2^32.
-fn place_fault(element: Element, shape: Shape) -> Fault
+#[tactic(auto, unfolding(crate::specs::Walks::place_fault))]
+fn place_fault(element: Element, shape: Shape) -> Result<(), Refusal>
     requires { (element.address.0 ≤ cap) × (1 ≤ shape.access) × (shape.size ≤ cap) }
-    ensures { result ≡ place_fault element shape }
+    ensures { verdict result ≡ place_fault element shape }
 {
-    let name = element.name;
+    let place = element.name.start;
     if element.address.0 % shape.access != 0 {
-        return Fault::Refused(20, name.start);
+        return Err(Rule::RegisterMisplaced.at(place));
     }
     if basics::ADDRESS_END < element.address.0 + shape.size {
-        return Fault::Refused(20, name.start);
+        return Err(Rule::RegisterMisplaced.at(place));
     }
-    Fault::None
+    Ok(())
 }
 
 // Writes a path behind an index of the log.
@@ -142,10 +129,8 @@ fn log_trail(log: &mut [u64], at: usize, trail: Trail)
     requires { at ≤ index_bound }
     ensures { log.new ≡ written log.old at trail.steps }
 {
-    let mut k = 0;
-    while k < basics::NEST_LIMIT {
+    for k in 0..basics::NEST_LIMIT {
         basics::put(log, at + k, trail.steps[k]);
-        k += 1;
     }
 }
 
@@ -170,43 +155,36 @@ fn visit_register(
     element: Element,
     trail: Trail,
     tally: Tally,
-) -> Walked
-    requires { Shaped text.now cells.now shapes.now extent × (element.row < extent.rows) × (element.address.0 ≤ cap) × Small tally × (trail.depth ≤ nest_limit) × IsRegisterRow cells.now element.row }
-    ensures { VisitWalks text.now cells.now log.old log.new extent element trail tally result }
+) -> Result<Tally, Refusal>
+    requires { Shaped text.now cells.now shapes.now extent × (element.row < extent.rows) × (element.address.0 ≤ cap) × Small (total_of tally) × (trail.depth ≤ nest_limit) × IsRegisterRow cells.now element.row }
+    ensures { VisitWalks text.now cells.now log.old log.new extent element trail (total_of tally) (walked result) }
 {
-    let name = element.name;
     let span = cells::instances_of(cells, element.row);
     let fields = tally.fields + (span.to - span.from);
     if basics::REGISTER_LIMIT <= tally.registers {
-        return Walked::Refused(name.start);
+        return Err(Rule::TooMany.at(element.name.start));
     }
     if basics::FIELD_LIMIT < fields {
-        return Walked::Refused(name.start);
+        return Err(Rule::TooMany.at(element.name.start));
     }
     log_register(log, tally.registers, element, trail);
     let shape = sizes::shape_at(shapes, element.row);
-    let close = tally.close;
-    let misplaced = tally.misplaced;
-    Walked::Done(Tally {
+    Ok(Tally {
         registers: tally.registers + 1,
         fields,
-        close: basics::first_of(close, close_fault(element)),
-        misplaced: basics::first_of(misplaced, place_fault(element, shape)),
+        close: tally.close.and(close_fault(element)),
+        misplaced: tally.misplaced.and(place_fault(element, shape)),
     })
 }
 
 // An element that is no register.
-fn visit_group(tally: Tally, element: Element) -> Walked
-    ensures { GroupVisited tally element result }
+fn visit_group(tally: Tally, element: Element) -> Tally
+    ensures { GroupVisited (total_of tally) element (fine (total_of result)) }
 {
-    let close = tally.close;
-    let misplaced = tally.misplaced;
-    Walked::Done(Tally {
-        registers: tally.registers,
-        fields: tally.fields,
-        close: basics::first_of(close, close_fault(element)),
-        misplaced,
-    })
+    Tally {
+        close: tally.close.and(close_fault(element)),
+        ..tally
+    }
 }
 
 // An element without its content, at the end of a path.
@@ -219,17 +197,15 @@ fn visit(
     element: Element,
     trail: Trail,
     tally: Tally,
-) -> Walked
-    requires { Shaped text.now cells.now shapes.now extent × (element.row < extent.rows) × (element.address.0 ≤ cap) × Small tally × (trail.depth ≤ nest_limit) }
-    ensures { VisitWalks text.now cells.now log.old log.new extent element trail tally result }
+) -> Result<Tally, Refusal>
+    requires { Shaped text.now cells.now shapes.now extent × (element.row < extent.rows) × (element.address.0 ≤ cap) × Small (total_of tally) × (trail.depth ≤ nest_limit) }
+    ensures { VisitWalks text.now cells.now log.old log.new extent element trail (total_of tally) (walked result) }
 {
     match cells::component_at(cells, element.row) {
-        Component::Field(_) => visit_group(tally, element),
         Component::Register(_) => {
             visit_register(text, cells, shapes, log, extent, element, trail, tally)
         }
-        Component::Regfile(_) => visit_group(tally, element),
-        Component::Addrmap(_, _) => visit_group(tally, element),
+        _ => Ok(visit_group(tally, element)),
     }
 }
 
@@ -243,21 +219,17 @@ fn walk_content(
     extent: Extent,
     site: Site,
     start: Tally,
-) -> Walked
-    requires { Shaped text.now cells.now shapes.now extent × SiteFits extent site × Small start }
-    ensures { ContentWalks text.now cells.now log.old log.new extent site.levels site.row site.address site.trail start result }
+) -> Result<Tally, Refusal>
+    requires { Shaped text.now cells.now shapes.now extent × SiteFits extent site × Small (total_of start) }
+    ensures { ContentWalks text.now cells.now log.old log.new extent site.levels site.row site.address site.trail (total_of start) (walked result) }
 {
     if site.levels == 0 {
-        return Walked::Done(start);
+        return Ok(start);
     }
     let inside = one_level_down(site);
     match cells::component_at(cells, site.row) {
-        Component::Field(_) => Walked::Done(start),
-        Component::Register(_) => Walked::Done(start),
-        Component::Regfile(alignment) => {
-            walk_children(text, cells, shapes, log, extent, inside, alignment, start)
-        }
-        Component::Addrmap(alignment, _) => {
+        Component::Field(_) | Component::Register(_) => Ok(start),
+        Component::Regfile(alignment) | Component::Addrmap(alignment, _) => {
             walk_children(text, cells, shapes, log, extent, inside, alignment, start)
         }
     }
@@ -268,13 +240,9 @@ fn one_level_down(site: Site) -> Site
     requires { 0 < site.levels }
     ensures { result ≡ record { row = site.row; address = site.address; trail = site.trail; levels = site.levels - 1 } }
 {
-    let address = site.address;
-    let trail = site.trail;
     Site {
-        row: site.row,
-        address,
-        trail,
         levels: site.levels - 1,
+        ..site
     }
 }
 
@@ -283,15 +251,12 @@ fn kid_of(row: usize, instance: Instance, shape: Shape, laid: Laid, base: Offset
     requires { (base.0 ≤ cap) × (laid.start.0 ≤ cap) }
     ensures { KidMade row instance shape laid base result }
 {
-    let array = instance.array;
-    let short = suffixes::is_array(array) && laid.stride < shape.size;
-    let address = Offset(capped::sum(base.0, laid.start.0));
     Kid {
         row,
         instance,
-        address,
+        address: Offset(capped::sum(base.0, laid.start.0)),
         stride: laid.stride,
-        short,
+        short: suffixes::is_array(instance.array) && laid.stride < shape.size,
     }
 }
 
@@ -304,41 +269,25 @@ fn walk_children(
     log: &mut [u64],
     extent: Extent,
     site: Site,
-    alignment: Given,
+    alignment: Option<u64>,
     start: Tally,
-) -> Walked
-    requires { Shaped text.now cells.now shapes.now extent × SiteFits extent site × GroupRow cells.now site.row alignment × Small start }
-    ensures { ChildrenWalk text.now cells.now log.old log.new extent site.levels site.row alignment site.address site.trail start result }
+) -> Result<Tally, Refusal>
+    requires { Shaped text.now cells.now shapes.now extent × SiteFits extent site × GroupRow cells.now site.row alignment × Small (total_of start) }
+    ensures { ChildrenWalk text.now cells.now log.old log.new extent site.levels site.row alignment site.address site.trail (total_of start) (walked result) }
 {
-    let base = site.address;
     let span = cells::instances_of(cells, site.row);
-    let mut i = span.from;
     let mut end = Offset(0);
     let mut tally = start;
-    while i < span.to {
-        match recall::child_at(text, cells, shapes, i) {
-            ChildReading::Refused(_, _) => {
-                // never so: the cells hold readable instances
-                return Walked::Done(tally);
-            }
-            ChildReading::Done(inner, instance) => {
-                let shape = sizes::shape_at(shapes, inner);
-                let laid = layout::lay(extent.mode, alignment, shape, instance, end);
-                let kid = kid_of(inner, instance, shape, laid, base);
-                match walk_array(text, cells, shapes, log, extent, site, kid, tally) {
-                    Walked::Refused(place) => {
-                        return Walked::Refused(place);
-                    }
-                    Walked::Done(next) => {
-                        tally = next;
-                        end = laid.end;
-                        i += 1;
-                    }
-                }
-            }
-        }
+    for i in span.from..span.to {
+        // the cells hold readable instances: none is refused
+        let (inner, instance) = recall::child_at(text, cells, shapes, i)?;
+        let shape = sizes::shape_at(shapes, inner);
+        let laid = layout::lay(extent.mode, alignment, shape, instance, end);
+        let kid = kid_of(inner, instance, shape, laid, site.address);
+        tally = walk_array(text, cells, shapes, log, extent, site, kid, tally)?;
+        end = laid.end;
     }
-    Walked::Done(tally)
+    Ok(tally)
 }
 
 // An element of an instance, at an address.
@@ -346,13 +295,10 @@ fn element_of(kid: Kid, k: u64, address: Offset) -> Element
     requires { k < sum_bound }
     ensures { result ≡ record { row = kid.row; name = kid.instance.name; index = index_code (index_in kid.instance.array k); address = address; short = kid.short } }
 {
-    let instance = kid.instance;
-    let array = instance.array;
-    let name = instance.name;
     Element {
         row: kid.row,
-        name,
-        index: index_of(array, k),
+        name: kid.instance.name,
+        index: index_of(kid.instance.array, k),
         address,
         short: kid.short,
     }
@@ -369,30 +315,19 @@ fn walk_array(
     site: Site,
     kid: Kid,
     start: Tally,
-) -> Walked
-    requires { Shaped text.now cells.now shapes.now extent × SiteFits extent site × KidFits extent kid × Small start }
-    ensures { ArrayWalks text.now cells.now log.old log.new extent site.levels kid site.trail start result }
+) -> Result<Tally, Refusal>
+    requires { Shaped text.now cells.now shapes.now extent × SiteFits extent site × KidFits extent kid × Small (total_of start) }
+    ensures { ArrayWalks text.now cells.now log.old log.new extent site.levels kid site.trail (total_of start) (walked result) }
 {
-    let instance = kid.instance;
-    let array = instance.array;
-    let count = layout::elements_of(array);
-    let mut k = 0;
+    let count = layout::elements_of(kid.instance.array);
     let mut address = kid.address;
     let mut tally = start;
-    while k < count {
+    for k in 0..count {
         let item = element_of(kid, k, address);
-        match walk_element(text, cells, shapes, log, extent, site, item, tally) {
-            Walked::Refused(place) => {
-                return Walked::Refused(place);
-            }
-            Walked::Done(next) => {
-                tally = next;
-                address = Offset(capped::sum(address.0, kid.stride));
-                k += 1;
-            }
-        }
+        tally = walk_element(text, cells, shapes, log, extent, site, item, tally)?;
+        address = Offset(capped::sum(address.0, kid.stride));
     }
-    Walked::Done(tally)
+    Ok(tally)
 }
 
 // An element of a body, and its content.
@@ -406,35 +341,34 @@ fn walk_element(
     site: Site,
     element: Element,
     start: Tally,
-) -> Walked
-    requires { Shaped text.now cells.now shapes.now extent × SiteFits extent site × (element.row < extent.rows) × (element.address.0 ≤ cap) × Small start }
-    ensures { ElementWalks text.now cells.now log.old log.new extent site.levels element site.trail start result }
+) -> Result<Tally, Refusal>
+    requires { Shaped text.now cells.now shapes.now extent × SiteFits extent site × (element.row < extent.rows) × (element.address.0 ≤ cap) × Small (total_of start) }
+    ensures { ElementWalks text.now cells.now log.old log.new extent site.levels element site.trail (total_of start) (walked result) }
 {
-    let name = element.name;
-    let address = element.address;
-    let before = site.trail;
-    if before.depth == basics::NEST_LIMIT {
-        return Walked::Refused(name.start);
+    if site.trail.depth == basics::NEST_LIMIT {
+        return Err(Rule::TooMany.at(element.name.start));
     }
-    let trail = deeper(before, name, element.index);
-    match visit(text, cells, shapes, log, extent, element, trail, start) {
-        Walked::Refused(place) => Walked::Refused(place),
-        Walked::Done(next) => {
-            let content = Site {
-                row: element.row,
-                address,
-                trail,
-                levels: site.levels,
-            };
-            walk_content(text, cells, shapes, log, extent, content, next)
-        }
-    }
+    let trail = deeper(site.trail, element.name, element.index);
+    let next = visit(text, cells, shapes, log, extent, element, trail, start)?;
+    let content = Site {
+        row: element.row,
+        address: element.address,
+        trail,
+        levels: site.levels,
+    };
+    walk_content(text, cells, shapes, log, extent, content, next)
 }
 
 // The elements of the map.
-fn walk_map(text: &[u8], cells: &[u64], shapes: &[u64], log: &mut [u64], extent: Extent) -> Walked
+fn walk_map(
+    text: &[u8],
+    cells: &[u64],
+    shapes: &[u64],
+    log: &mut [u64],
+    extent: Extent,
+) -> Result<Tally, Refusal>
     requires { Shaped text.now cells.now shapes.now extent × (extent.map < extent.rows) }
-    ensures { MapWalks text.now cells.now log.old log.new extent extent.map result }
+    ensures { MapWalks text.now cells.now log.old log.new extent extent.map (walked result) }
 {
     let trail = Trail {
         depth: 0,
@@ -443,8 +377,8 @@ fn walk_map(text: &[u8], cells: &[u64], shapes: &[u64], log: &mut [u64], extent:
     let start = Tally {
         registers: 0,
         fields: 0,
-        close: Fault::None,
-        misplaced: Fault::None,
+        close: Ok(()),
+        misplaced: Ok(()),
     };
     let site = Site {
         row: extent.map,
@@ -464,23 +398,15 @@ pub fn survey(
     shapes: &[u64],
     log: &mut [u64],
     extent: Extent,
-) -> Surveyed
+) -> Result<Counts, Refusal>
     requires { Shaped text.now cells.now shapes.now extent × (extent.map < extent.rows) }
-    ensures answer { result ≡ survey_of text.now cells.now extent extent.map }
+    ensures answer { judged result ≡ survey_of text.now cells.now extent extent.map }
     ensures logs { log.new ≡ logged_in text.now cells.now log.old extent extent.map }
 {
-    match walk_map(text, cells, shapes, log, extent) {
-        Walked::Refused(place) => Surveyed::Refused(18, place),
-        Walked::Done(tally) => {
-            let close = tally.close;
-            let misplaced = tally.misplaced;
-            match basics::first_of(close, misplaced) {
-                Fault::Refused(number, place) => Surveyed::Refused(number, place),
-                Fault::None => Surveyed::Done(Counts {
-                    registers: tally.registers,
-                    fields: tally.fields,
-                }),
-            }
-        }
-    }
+    let tally = walk_map(text, cells, shapes, log, extent)?;
+    tally.close.and(tally.misplaced)?;
+    Ok(Counts {
+        registers: tally.registers,
+        fields: tally.fields,
+    })
 }

@@ -5,12 +5,12 @@ use mathlib.Core.List.{List, [], ◌∷◌, ◌++◌}
 use Prim.Native.Nat.{ℕ}
 use Rattle.actions.specs.Actions.{apply}
 use Rattle.model.specs.declared.Access.{Access}
-use Rattle.model.specs.declared.Answer.{Answer}
 use Rattle.model.specs.Model.{Device, fits, after, bits_of}
 use Rattle.model.specs.Lists.{table, run, answers, answers_under, WholeList}
 use Rattle.model.specs.Suited.{Suited}
 use Rattle.model.proofs.Demand.{run-bit, run_fits, run_past}
 use Rattle.model.proofs.Words.{answer_ext}
+use Rattle.basics.specs.Judged.{Outcome}
 
 run_snoc : (d : Device) (xs : List Access) (x : Access) (s : List ℕ) → run d (xs ++ (x ∷ [])) s ≡ after d x (run d xs s)
 unfolding run
@@ -22,7 +22,7 @@ module _ (d : Device) (ok : Suited d) where
   unfolding answers answers_under
   answers_from done [] s h = refl
   answers_from done (x ∷ xs) s h =
-      ap₂ (λ (y : Answer) (l : List Answer). y ∷ l)
+      ap₂ (λ (y : Outcome ℕ) (l : List (Outcome ℕ)). y ∷ l)
       (answer_ext d ok x (bits_of (run d done s)) (λ f i. apply (table d done f i) (bits_of s f i)) (run-bit d ok done s h))
       (ap (answers d xs) (sym (run_snoc d done x s)) ∙ answers_from (done ++ (x ∷ [])) xs s h)
 

@@ -6,8 +6,8 @@ use Rattle.actions.specs.declared.Action.TheVariants.{Kept}
 use Rattle.actions.specs.Actions.{followed_by, apply}
 use Rattle.model.specs.declared.View.{View}
 use Rattle.model.specs.declared.Access.{Access}
-use Rattle.model.specs.declared.Answer.{Answer}
 use Rattle.model.specs.Model.{Device, size, fits, bit_action, answered, after, answer_from, bits_of, view_in}
+use Rattle.basics.specs.Judged.{Outcome}
 
 -- what the views of number f do to its bit i, one after another, t being done before
 unfoldable pub action_from : Access → List View → Action → ℕ → ℕ → Action
@@ -33,7 +33,7 @@ run d [] s = s
 run d (x ∷ xs) s = run d xs (after d x s)
 
 -- the answers of a list, one for each access
-unfoldable pub answers : Device → List Access → List ℕ → List Answer
+unfoldable pub answers : Device → List Access → List ℕ → List (Outcome ℕ)
 answers d [] s = []
 answers d (x ∷ xs) s = answer_from d x (bits_of s) ∷ answers d xs (after d x s)
 
@@ -48,14 +48,14 @@ pub record Shown (cs : List View) (k i : ℕ) : Type 0 where
   pub place : i < size (view_in cs k)
 
 -- "A read answers by its rule from the starting bits under the actions before it": the answers of a list, `done` being the accesses before it
-unfoldable pub answers_under : Device → List Access → List Access → (ℕ → ℕ → Bool) → List Answer
+unfoldable pub answers_under : Device → List Access → List Access → (ℕ → ℕ → Bool) → List (Outcome ℕ)
 answers_under d done [] b = []
 answers_under d done (x ∷ xs) b = answer_from d x (λ f i. apply (table d done f i) (b f i)) ∷ answers_under d (done ++ (x ∷ [])) xs b
 
 -- "Demand 3 is one claim on the whole list": of the store and the answers afterwards, from the device, the list and the starting store, that
 -- "each stored bit is the starting one under its action, and the store fits", that "numbers past the last row are never .. changed", and
 -- that each answer is the one that the starting bits and the table give
-pub record WholeList (d : Device) (xs : List Access) (start end : List ℕ) (given : List Answer) : Type 0 where
+pub record WholeList (d : Device) (xs : List Access) (start end : List ℕ) (given : List (Outcome ℕ)) : Type 0 where
   pub fitting : fits d.sizes end ≡ true
   pub bits : (f i : ℕ) → Stored d.sizes f i → bits_of end f i ≡ apply (table d xs f i) (bits_of start f i)
   pub past : drop (length d.sizes) end ≡ drop (length d.sizes) start

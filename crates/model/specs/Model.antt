@@ -1,10 +1,9 @@
 -- Reading and writing (document 01): what a software read or write of a map answers, and what it does to the store. A map is here a device:
 -- how many bits each number of the store has, and the field rows, each a view of one of these numbers. Document 01's rows show a number of
 -- their own each (access/specs/Stored.antt); nothing here asks for that, so that several rows may show one number.
-use Rattle.std.specs.Prelude.{◌≡◌, Bool, true, false, ◌&&◌, ◌||◌, List, [], ◌∷◌, ℕ, zero, suc, ◌+◌, ◌*◌, ◌-◌, ◌/◌, ◌%◌, ◌^◌, ◌<◌, eqb, leb, ltb, length, get_or, set}
+use Rattle.std.specs.Prelude.{◌≡◌, Bool, true, false, ◌&&◌, ◌||◌, List, [], ◌∷◌, ℕ, zero, suc, ◌+◌, ◌*◌, ◌-◌, ◌/◌, ◌%◌, ◌^◌, ◌<◌, eqb, leb, ltb, length, get_or, set, None}
 use Rattle.std.specs.Prelude.{if◌then◌else◌}
 use Rattle.fields.specs.Codes.{is_width}
-use Rattle.basics.specs.declared.Given.TheVariants.{Nothing}
 use Rattle.fields.specs.declared.BitPlace.{BitPlace}
 use Rattle.fields.specs.declared.Offset.{Offset}
 use Rattle.fields.specs.declared.Register.{Register}
@@ -15,9 +14,8 @@ use Rattle.actions.specs.Actions.{apply, write_action, read_action}
 use Rattle.model.specs.declared.View.{View}
 use Rattle.model.specs.declared.Access.{Access}
 use Rattle.model.specs.declared.Access.TheVariants.{Read, Write}
-use Rattle.model.specs.declared.Answer.{Answer}
-use Rattle.model.specs.declared.Answer.TheVariants.{Refused, Word}
 use Rattle.fields.specs.Fields.{is_readable, is_writable}
+use Rattle.basics.specs.Judged.{Outcome, gave, barred}
 
 pub record Device : Type 0 where
   -- how many bits each number of the store has
@@ -151,27 +149,27 @@ word_from d (Read a w) b = number w (gives d.views a w b)
 word_from d (Write a w x) b = 0
 
 -- an answer of a refusal, or 0 for none, and a word
-abbrev pub answer_with : ℕ → ℕ → Answer
-answer_with zero word = Word word
-answer_with (suc n) word = Refused (suc n)
+abbrev pub answer_with : ℕ → ℕ → Outcome ℕ
+answer_with zero word = gave word
+answer_with (suc n) word = barred (suc n)
 
 -- what an access answers, from the bits of the store
-abbrev pub answer_from : Device → Access → (ℕ → ℕ → Bool) → Answer
+abbrev pub answer_from : Device → Access → (ℕ → ℕ → Bool) → Outcome ℕ
 answer_from d x b = answer_with (refusal d x) (word_from d x b)
 
 -- an answer in document 01's numbers: the refusal or 0, its place, which is always 0, and the word, 0 where it is refused
-abbrev pub access_numbers : Answer → List ℕ
-access_numbers (Refused n) = n ∷ 0 ∷ 0 ∷ []
-access_numbers (Word w) = 0 ∷ 0 ∷ w ∷ []
+abbrev pub access_numbers : Outcome ℕ → List ℕ
+access_numbers (barred n) = n ∷ 0 ∷ 0 ∷ []
+access_numbers (gave w) = 0 ∷ 0 ∷ w ∷ []
 
 -- the same numbers of a refusal, or 0 for none, and a value: "Refused: counts and word are 0"
 abbrev pub numbers_with : ℕ → ℕ → List ℕ
 numbers_with zero value = 0 ∷ 0 ∷ value ∷ []
 numbers_with (suc n) value = suc n ∷ 0 ∷ 0 ∷ []
 
-abbrev pub word_in : Answer → ℕ
-word_in (Refused n) = 0
-word_in (Word w) = w
+abbrev pub word_in : Outcome ℕ → ℕ
+word_in (barred n) = 0
+word_in (gave w) = w
 
 -- view k; past the last, one of no use
 abbrev pub no_view : View
@@ -179,7 +177,7 @@ no_view =
     record {
       base = record { 0 = 0 };
       register = record { width = 0; access = 0 };
-      field = record { low = record { 0 = 0 }; high = record { 0 = 0 }; values = record { sw = 0; hw = 0; onread = 0; onwrite = 0; reset = Nothing } };
+      field = record { low = record { 0 = 0 }; high = record { 0 = 0 }; values = record { sw = 0; hw = 0; onread = 0; onwrite = 0; reset = None } };
       index = 0;
     }
 

@@ -9,8 +9,6 @@ ghost use Rattle.identifiers.specs.Names.{print_from};
 ghost use Rattle.cells.specs.Cells.{entry_places, link_bound};
 ghost use Rattle.name_tree.specs.Tree.{goes_right, is_spelt, is_entry_named, link_in, below, seek, with_link, linked, grown};
 
-use parts::NameReading;
-
 // How many bits a fingerprint has.
 const PRINT_BITS: usize = 32;
 
@@ -23,6 +21,7 @@ pub struct Spot {
 }
 
 // Whether a name goes right at a depth: by its fingerprint, then by its bytes.
+#[tactic(auto, unfolding(crate::specs::Tree::goes_right))]
 fn goes_right(name: &[u8], print: u64, depth: usize) -> bool
     requires { print ≡ print_from 0 name.now }
     ensures { result ≡ goes_right name.now depth }
@@ -40,48 +39,46 @@ fn is_spelt_at(text: &[u8], place: usize, name: &[u8]) -> bool
     ensures { result ≡ is_spelt text.now name.now (name_at text.now place) }
 {
     match parts::read_name(text, place) {
-        NameReading::Done(other, _) => {
+        Ok((other, _)) => {
             let bytes = identifiers::bytes_of(text, other.start, other.end);
             chars::same(name, bytes)
         }
-        NameReading::Refused(_) => false,
+        Err(_) => false,
     }
 }
 
 // Whether the instance of a cell has this name. A word is read at its place only where the bytes agree.
+#[tactic(auto, unfolding(crate::specs::Tree::is_entry_named))]
 fn is_entry_named(text: &[u8], entry: u64, name: &[u8]) -> bool
     requires { length name.now ≤ text_limit }
     ensures { result ≡ is_entry_named text.now entry name.now }
 {
     let place = cells::place_in(entry);
     let bytes = identifiers::bytes_of(text, place, place + name.len());
-    if !chars::same(name, bytes) {
-        return false;
-    }
-    is_spelt_at(text, place, name)
+    chars::same(name, bytes) && is_spelt_at(text, place, name)
 }
 
 fn link_in(entry: u64, right: bool) -> usize
     ensures { result ≡ link_in right entry }
 {
     if right {
-        return cells::right_in(entry);
+        cells::right_in(entry)
+    } else {
+        cells::left_in(entry)
     }
-    cells::left_in(entry)
 }
 
 // The number of the instance below another on one side, or 0: an instance stands behind the one above it.
+#[tactic(auto, unfolding(crate::specs::Tree::below))]
 fn below_of(entry: u64, right: bool, node: usize, count: usize) -> usize
     ensures { result ≡ below entry right node count }
 {
     let number = link_in(entry, right);
-    if number <= node {
-        return 0;
+    if node < number && number < count {
+        number
+    } else {
+        0
     }
-    if count <= number {
-        return 0;
-    }
-    number
 }
 
 // Where a name stands among the instances of a body, which are so many from a cell on.
@@ -121,6 +118,7 @@ pub fn find(text: &[u8], cells: &[u64], from: usize, count: usize, name: &[u8]) 
 }
 
 // An instance's cell with one link made.
+#[tactic(auto, unfolding(crate::specs::Tree::with_link))]
 fn with_link(entry: u64, right: bool, number: usize) -> u64
     requires { number < link_bound }
     ensures { result ≡ with_link right number entry }
@@ -128,14 +126,14 @@ fn with_link(entry: u64, right: bool, number: usize) -> u64
     let place = cells::place_in(entry);
     let row = cells::row_in(entry);
     if right {
-        let left = cells::left_in(entry);
-        return cells::entry_of(place, row, left, number);
+        cells::entry_of(place, row, cells::left_in(entry), number)
+    } else {
+        cells::entry_of(place, row, number, cells::right_in(entry))
     }
-    let beside = cells::right_in(entry);
-    cells::entry_of(place, row, number, beside)
 }
 
 // Links the instance that comes next in a body; the first is linked to none.
+#[tactic(auto, unfolding(crate::specs::Tree::linked))]
 fn link(cells: &mut [u64], from: usize, count: usize, spot: Spot)
     requires { (count < link_bound) × (from + count ≤ entry_places) }
     ensures { cells.new ≡ linked cells.old from count spot }
@@ -147,11 +145,11 @@ fn link(cells: &mut [u64], from: usize, count: usize, spot: Spot)
 }
 
 // Writes an instance behind the others of its body, where its name is not taken.
+#[tactic(auto, unfolding(crate::specs::Tree::grown))]
 pub fn add(cells: &mut [u64], from: usize, count: usize, spot: Spot, place: usize, row: usize)
     requires { (count < link_bound) × (from + count ≤ entry_places) × (place < entry_places) × (row < definition_limit) }
     ensures { cells.new ≡ grown cells.old from count spot place row }
 {
     link(cells, from, count, spot);
-    let entry = cells::entry_of(place, row, 0, 0);
-    basics::put(cells, from + count, entry);
+    basics::put(cells, from + count, cells::entry_of(place, row, 0, 0));
 }

@@ -6,74 +6,53 @@ ghost use Rattle.numbers.specs.Number.{digit_value, next_value, value, fitting, 
 
 use chars::{Class, Radix};
 
-// A number's value; malformed; or too wide for 64 bits or for its width.
-#[derive(Clone, Copy)]
-pub enum Numeral {
-    Fits(u64),
+// Why bytes are no number: they are malformed, or too wide for 64 bits or for their width.
+#[derive(Clone, Copy, PartialEq, Eq)]
+pub enum BadNumber {
     Malformed,
     TooWide,
-}
-
-// The radix that a letter names.
-#[derive(Clone, Copy)]
-pub enum RadixLookup {
-    Known(Radix),
-    Unknown,
-}
-
-fn wide(b: u8) -> u64
-    ensures { result ≡ b }
-{
-    b as u64
 }
 
 fn digit_value(b: u8) -> u64
     ensures { result ≡ digit_value b }
 {
     if chars::within(b, b'0', b'9') {
-        return wide(b - b'0');
+        return u64::from(b - b'0');
     }
     if chars::within(b, b'a', b'f') {
-        return wide(b - b'a') + 10;
+        return u64::from(b - b'a') + 10;
     }
     if chars::within(b, b'A', b'F') {
-        return wide(b - b'A') + 10;
+        return u64::from(b - b'A') + 10;
     }
     0
 }
 
 // The value of digits of the value `value` with one more byte, an underscore or a digit.
-pub fn next_value(value: u64, base: u64, b: u8) -> Numeral
+pub fn next_value(value: u64, base: u64, b: u8) -> Result<u64, BadNumber>
     requires { (1 ≤ base) × (base ≤ 16) }
     ensures { result ≡ fitting 64 (next_value base value b) }
 {
     if b == b'_' {
-        return Numeral::Fits(value);
+        return Ok(value);
     }
     let d = digit_value(b);
     if value > (0xffff_ffff_ffff_ffff - d) / base {
-        return Numeral::TooWide;
+        return Err(BadNumber::TooWide);
     }
-    Numeral::Fits(value * base + d)
+    Ok(value * base + d)
 }
 
 // The value of the digits from `at` on.
-fn value_of(part: &[u8], at: usize, base: u64) -> Numeral
+fn value_of(part: &[u8], at: usize, base: u64) -> Result<u64, BadNumber>
     requires { (1 ≤ base) × (base ≤ 16) }
     ensures { result ≡ fitting 64 (value base (drop at part.now)) }
 {
     let mut value: u64 = 0;
-    let mut i = at;
-    loop {
-        if i >= part.len() {
-            break Numeral::Fits(value);
-        }
-        let Numeral::Fits(next) = next_value(value, base, part[i]) else {
-            break Numeral::TooWide;
-        };
-        value = next;
-        i += 1;
+    for i in at..part.len() {
+        value = next_value(value, base, part[i])?;
     }
+    Ok(value)
 }
 
 pub fn base_of(radix: Radix) -> u64
@@ -87,14 +66,14 @@ pub fn base_of(radix: Radix) -> u64
 }
 
 #[tactic(auto, unfolding(crate::specs::Number::radix_of))]
-fn radix_of(letter: u8) -> RadixLookup
+fn radix_of(letter: u8) -> Option<Radix>
     ensures { result ≡ radix_of letter }
 {
     match letter {
-        b'b' => RadixLookup::Known(Radix::Binary),
-        b'd' => RadixLookup::Known(Radix::Decimal),
-        b'h' => RadixLookup::Known(Radix::Hex),
-        _ => RadixLookup::Unknown,
+        b'b' => Some(Radix::Binary),
+        b'd' => Some(Radix::Decimal),
+        b'h' => Some(Radix::Hex),
+        _ => None,
     }
 }
 
@@ -122,72 +101,71 @@ fn spaced_digits(part: &[u8], at: usize, radix: Radix) -> bool
 }
 
 // A value of 64 bits that has to fit some bits.
-fn fit(value: u64, bits: u64) -> Numeral
+fn fit(value: u64, bits: u64) -> Result<u64, BadNumber>
     ensures { result ≡ fitting bits value }
 {
     if bits >= 64 {
-        return Numeral::Fits(value);
+        return Ok(value);
     }
     if value < 1u64 << bits {
-        return Numeral::Fits(value);
+        return Ok(value);
     }
-    Numeral::TooWide
+    Err(BadNumber::TooWide)
 }
 
 // The value of the digits from `at` on, which has to fit some bits.
-fn fitting_value(part: &[u8], at: usize, base: u64, bits: u64) -> Numeral
+fn fitting_value(part: &[u8], at: usize, base: u64, bits: u64) -> Result<u64, BadNumber>
     requires { (1 ≤ base) × (base ≤ 16) × (bits ≤ 64) }
     ensures { result ≡ fitting bits (value base (drop at part.now)) }
 {
-    let Numeral::Fits(value) = value_of(part, at, base) else {
-        return Numeral::TooWide;
-    };
-    fit(value, bits)
+    fit(value_of(part, at, base)?, bits)
 }
 
 // The width that the digits of `digits` give: 1 to 64, or 0 for none.
 fn width_of(digits: &[u8]) -> u64
     ensures { (result ≡ width_of digits.now) × (result ≤ 64) }
 {
-    let Numeral::Fits(width) = value_of(digits, 0, 10) else {
-        return 0;
-    };
-    if width > 64 {
-        return 0;
+    match value_of(digits, 0, 10) {
+        Err(_) => 0,
+        Ok(width) => {
+            if width > 64 {
+                return 0;
+            }
+            width
+        }
     }
-    width
 }
 
 // The number of a width and of the digits from `at` on.
-fn sized_number(width: u64, radix: RadixLookup, part: &[u8], at: usize) -> Numeral
+fn sized_number(width: u64, radix: Option<Radix>, part: &[u8], at: usize) -> Result<u64, BadNumber>
     requires { width ≤ 64 }
     ensures { result ≡ sized_number width radix (drop at part.now) }
 {
-    let RadixLookup::Known(known) = radix else {
-        return Numeral::Malformed;
+    let Some(known) = radix else {
+        return Err(BadNumber::Malformed);
     };
     if width == 0 {
-        return Numeral::Malformed;
+        return Err(BadNumber::Malformed);
     }
     if !spaced_digits(part, at, known) {
-        return Numeral::Malformed;
+        return Err(BadNumber::Malformed);
     }
     fitting_value(part, at, base_of(known), width)
 }
 
 // A number whose width ends at `quote`.
-fn sized_at(part: &[u8], quote: usize) -> Numeral
+fn sized_at(part: &[u8], quote: usize) -> Result<u64, BadNumber>
     ensures { result ≡ sized_at part.now quote }
 {
     if quote >= part.len() {
-        return Numeral::Malformed;
+        return Err(BadNumber::Malformed);
     }
     if part[quote] != b'\'' {
-        return Numeral::Malformed;
+        return Err(BadNumber::Malformed);
     }
     let letter = quote + 1;
     if letter >= part.len() {
-        return Numeral::Malformed;
+        return Err(BadNumber::Malformed);
     }
     sized_number(
         width_of(&part[0..quote]),
@@ -197,30 +175,25 @@ fn sized_at(part: &[u8], quote: usize) -> Numeral
     )
 }
 
+#[tactic(auto, unfolding(crate::specs::Number::hex_prefixed))]
 fn hex_prefixed(part: &[u8]) -> bool
     ensures { result ≡ hex_prefixed part.now }
 {
-    if chars::byte_at(part, 0) != b'0' {
-        return false;
-    }
     let letter = chars::byte_at(part, 1);
-    if letter == b'x' {
-        return true;
-    }
-    letter == b'X'
+    chars::byte_at(part, 0) == b'0' && (letter == b'x' || letter == b'X')
 }
 
-fn hex_number(part: &[u8]) -> Numeral
+fn hex_number(part: &[u8]) -> Result<u64, BadNumber>
     ensures { result ≡ hex_number (drop 2 part.now) }
 {
     if plain_digits(part, 2, Radix::Hex) {
         return fitting_value(part, 2, 16, 64);
     }
-    Numeral::Malformed
+    Err(BadNumber::Malformed)
 }
 
 // The number that the bytes are.
-pub fn number_of(part: &[u8]) -> Numeral
+pub fn number_of(part: &[u8]) -> Result<u64, BadNumber>
     ensures { result ≡ number_of part.now }
 {
     if plain_digits(part, 0, Radix::Decimal) {

@@ -6,46 +6,32 @@ use Prim.Native.Nat.{ℕ, zero, suc, ◌+◌}
 use native.Mathlib.Omega.{arith}
 use lib.Dec.{leb, ltb}
 use borrow.Author.Tests.{lt-ltb}
-use Rattle.std.specs.Prelude.{if◌then◌else◌}
+use Rattle.std.specs.Prelude.{if◌then◌else◌, Option, Some, None}
 use Rattle.vocabulary.specs.Vocabulary.{property_of}
 use Rattle.vocabulary.specs.declared.Property.{Property}
-use Rattle.vocabulary.specs.declared.PropertyLookup.{PropertyLookup}
-use Rattle.vocabulary.specs.declared.PropertyLookup.TheVariants.{Known, Unknown}
-use Rattle.expressions.specs.declared.Refusal.{Refusal}
-use Rattle.expressions.specs.declared.Refusal.TheVariants.{Nowhere, AtOperator}
 use Rattle.expressions.specs.declared.Number.{Number}
 use Rattle.parts.specs.declared.Name.{Name}
 use Rattle.parts.specs.declared.Kind.{Kind}
 use Rattle.parts.specs.declared.Array.{Array}
 use Rattle.parts.specs.declared.Array.TheVariants as array
-use Rattle.parts.specs.declared.Suffix.{Suffix}
-use Rattle.parts.specs.declared.Suffix.TheVariants as suffix
 use Rattle.parts.specs.declared.SuffixKind.{SuffixKind}
 use Rattle.parts.specs.declared.SuffixKind.TheVariants.{Reset, Address, Stride, Alignment}
 use Rattle.parts.specs.declared.Instance.{Instance}
 use Rattle.parts.specs.declared.Header.{Header}
-use Rattle.parts.specs.declared.DefinedName.{DefinedName}
-use Rattle.parts.specs.declared.DefinedName.TheVariants.{Unnamed, Named}
 use Rattle.parts.specs.declared.Value.{Value}
 use Rattle.parts.specs.declared.Value.TheVariants as value
 use Rattle.parts.specs.declared.Assignment.{Assignment}
 use Rattle.property_values.specs.Settings.{is_field, is_allowed, slot_of, term_of, wanted_of, setting_as, setting_of, value_place, value_refusal, wanted_refusal, refusal_in}
 use Rattle.property_values.specs.declared.Wanted.{Wanted}
 use Rattle.property_values.specs.declared.Wanted.TheVariants as wanted
-use Rattle.property_values.specs.declared.Setting.{Setting}
-use Rattle.property_values.specs.declared.Setting.TheVariants.{Set, Wrong}
 use Rattle.property_values.specs.declared.Slot.{Slot}
-use Rattle.basics.specs.Judged.{first_of, Judged, fault, fine, onward, unless, found}
+use Rattle.basics.specs.Judged.{first_of, Judged, fault, fine, onward, unless, found, Verdict, Accepted, Refused}
 use Rattle.suffixes.specs.Suffixes.{ranged, settled_fault, is_size, is_range, suffix_range, is_barred, range_fault, array_fault, suffix_fault, instance_fault}
-use Rattle.basics.specs.declared.Fault.{Fault}
-use Rattle.basics.specs.declared.Fault.TheVariants.{None, Refused}
 use Rattle.syntax.specs.Tree.{Elem, definition, instances, property, Body, close, more}
 use Rattle.identifiers.specs.Names.{bytes_of, is_among}
 use Rattle.basics.specs.Given.{is_given}
 use Rattle.properties.specs.Assigned.{given_in, settings_of, nearest, no_settings}
 use Rattle.properties.specs.Properties.{judge_value, judge_settled, judge_known, judge_property}
-use Rattle.basics.specs.declared.Given.{Given}
-use Rattle.basics.specs.declared.Given.TheVariants.{Nothing, Number as Numbered}
 use Rattle.properties.specs.declared.Settings.{Settings}
 use Rattle.properties.specs.declared.Assigned.{Assigned}
 use Rattle.components.specs.Components.{component_of, kind_of}
@@ -56,15 +42,13 @@ use Rattle.fields.specs.declared.Probe.TheVariants.{Wide, Outside, Span}
 use Rattle.cells.specs.Definitions.{Child, Definition, definition_of, names_of, VisibleType, lookup}
 use Rattle.closing_rules.specs.Registers.{fields_of, some, overlaps, is_empty, register_fault, closing_fault}
 use Rattle.scopes.specs.Places.{may_define, may_hold, is_bad_map}
-use Rattle.scopes.specs.declared.Enclosing.{Enclosing}
-use Rattle.scopes.specs.declared.Enclosing.TheVariants.{Root, Inside}
 use Rattle.basics.specs.Limits.{definition_limit}
 use Rattle.rules.specs.Judge.{State, Known as Facts, opening, with_assigned, with_held, judge_instances, judge_use, judge_setting, type_twice, name_place, Made, last_of, closed, declared, judge_definition, judge_elem, judge_body, meaning_of, judge_file, judge}
 use Rattle.order_laws.specs.Order.{Check, check, operator_checks, is_nowhere, number_checks, array_checks, suffix_checks, instance_checks, list_checks, held_after, Checked, walked, walk_use, is_wrong, assigned_by, value_checks, walk_property, walk_setting, close_checks, walk_close, name_checks, header_checks, walk_definition, walk_elem, walk_body, map_check, file_checks, checks_of, first_failing, fault_of}
 
 -- what was judged is what was walked: no check fails and the results are the same, or the fault is the first check that fails
 pub data WalkAgrees {A : Type 0} (w : Checked A) : Judged A → Type 0 where
-  agrees_fine : {a : A} → first_failing w.checks ≡ None → w.result ≡ a → WalkAgrees w (fine a)
+  agrees_fine : {a : A} → first_failing w.checks ≡ Accepted → w.result ≡ a → WalkAgrees w (fine a)
   agrees_fault : {n p : ℕ} → first_failing w.checks ≡ Refused n p → WalkAgrees w (fault n p)
 
 pub first_append : (xs ys : List Check) → first_failing (xs ++ ys) ≡ first_of (first_failing xs) (first_failing ys)
@@ -86,15 +70,15 @@ module _ {A : Type 0} where
   agrees_unless false n p w (agrees_fault e) = agrees_fault e
 
   -- some checks at the front
-  agrees_found : (f : Fault) (cs : List Check) (w : Checked A) {j : Judged A} → first_failing cs ≡ f → WalkAgrees w j → WalkAgrees (walked (cs ++ w.checks) w.result) (found f j)
-  agrees_found None cs w e (agrees_fine g h) = agrees_fine (first_append cs w.checks ∙ (rw (e, g))) h
-  agrees_found None cs w e (agrees_fault {n = n} {p = p} g) = agrees_fault {n = n} {p = p} (first_append cs w.checks ∙ (rw (e, g)))
+  agrees_found : (f : Verdict) (cs : List Check) (w : Checked A) {j : Judged A} → first_failing cs ≡ f → WalkAgrees w j → WalkAgrees (walked (cs ++ w.checks) w.result) (found f j)
+  agrees_found Accepted cs w e (agrees_fine g h) = agrees_fine (first_append cs w.checks ∙ (rw (e, g))) h
+  agrees_found Accepted cs w e (agrees_fault {n = n} {p = p} g) = agrees_fault {n = n} {p = p} (first_append cs w.checks ∙ (rw (e, g)))
   agrees_found (Refused n p) cs w e h = agrees_fault {n = n} {p = p} (first_append cs w.checks ∙ (rw e))
 
 -- one part behind another
 agrees_onward : {A B : Type 0} (w : Checked A) (v : Checked B) {j : Judged A} (k : A → Judged B) → WalkAgrees w j → WalkAgrees v (k w.result) → WalkAgrees (walked (w.checks ++ v.checks) v.result) (onward j k)
 unfolding onward
-agrees_onward w v k (agrees_fine e f) h = agrees_found None w.checks v e (rw f at h)
+agrees_onward w v k (agrees_fine e f) h = agrees_found Accepted w.checks v e (rw f at h)
 agrees_onward w v k (agrees_fault {n = n} {p = p} e) h = agrees_fault {n = n} {p = p} (first_append w.checks v.checks ∙ (rw e))
 
 -- what becomes of a result
@@ -108,21 +92,21 @@ number_first : (inside : Bool) (n : Number) → first_failing (number_checks ins
 unfolding first_failing settled_fault ranged
 number_first inside n = by n.refusal inside
   where
-    by : (r : Refusal) (b : Bool) → first_failing (check 9 n.place (is_nowhere r && not b) ∷ operator_checks r) ≡ settled_fault r (ranged b n.place)
-    by Nowhere true = refl
-    by Nowhere false = refl
-    by (AtOperator p) b = refl
+    by : (r : Option ℕ) (b : Bool) → first_failing (check 9 n.place (is_nowhere r && not b) ∷ operator_checks r) ≡ settled_fault r (ranged b n.place)
+    by None true = refl
+    by None false = refl
+    by (Some p) b = refl
 
 range_first : (mark : ℕ) (left right : Number) → first_failing (array_checks true (array.Range mark left right)) ≡ range_fault left right
 unfolding first_failing settled_fault ranged
 range_first mark left right = by left.refusal right.refusal (is_range left.value right.value)
   where
-    by : (l r : Refusal) (b : Bool) → first_failing (check 9 left.place ((is_nowhere l && is_nowhere r) && not b) ∷ (operator_checks l ++ operator_checks r))
+    by : (l r : Option ℕ) (b : Bool) → first_failing (check 9 left.place ((is_nowhere l && is_nowhere r) && not b) ∷ (operator_checks l ++ operator_checks r))
         ≡ settled_fault l (settled_fault r (ranged b left.place))
-    by Nowhere Nowhere true = refl
-    by Nowhere Nowhere false = refl
-    by Nowhere (AtOperator q) b = refl
-    by (AtOperator p) r b = refl
+    by None None true = refl
+    by None None false = refl
+    by None (Some q) b = refl
+    by (Some p) r b = refl
 
 array_first : (field : Bool) (a : Array) → first_failing (array_checks field a) ≡ array_fault field a
 unfolding first_failing
@@ -131,11 +115,11 @@ array_first field (array.Size mark n) = number_first (is_size field n.value) n
 array_first true (array.Range mark left right) = range_first mark left right
 array_first false (array.Range mark left right) = refl
 
-suffix_first : (barred : Bool) (s : SuffixKind) (x : Suffix) → first_failing (suffix_checks barred s x) ≡ suffix_fault barred s x
+suffix_first : (barred : Bool) (s : SuffixKind) (x : Option (ℕ × Number)) → first_failing (suffix_checks barred s x) ≡ suffix_fault barred s x
 unfolding first_failing
-suffix_first barred s suffix.Missing = refl
-suffix_first true s (suffix.Given mark n) = refl
-suffix_first false s (suffix.Given mark n) = number_first (suffix_range s n.value) n
+suffix_first barred s None = refl
+suffix_first true s (Some (mark, n)) = refl
+suffix_first false s (Some (mark, n)) = number_first (suffix_range s n.value) n
 
 instance_first : (k : Kind) (i : Instance) → first_failing (instance_checks k i) ≡ instance_fault k i
 unfolding instance_checks instance_fault
@@ -147,11 +131,11 @@ instance_first k i =
     (joined (suffix_checks (is_barred Stride f i) Stride i.stride) _ (suffix_first (is_barred Stride f i) Stride i.stride)
     (suffix_first (is_barred Alignment f i) Alignment i.alignment))))
   where
-    joined : (xs ys : List Check) {f g : Fault} → first_failing xs ≡ f → first_failing ys ≡ g → first_failing (xs ++ ys) ≡ first_of f g
+    joined : (xs ys : List Check) {f g : Verdict} → first_failing xs ≡ f → first_failing ys ≡ g → first_failing (xs ++ ys) ≡ first_of f g
     joined xs ys e h = first_append xs ys ∙ (rw (e, h))
 
 -- a list of instances
-list_agrees : (text : List ℕ) (b : Enclosing) (k : Kind) (n : ℕ) (is : List Instance) (held : List Child)
+list_agrees : (text : List ℕ) (b : Option Kind) (k : Kind) (n : ℕ) (is : List Instance) (held : List Child)
     → WalkAgrees (walked (list_checks text b k n is held) (held_after n is held)) (judge_instances text b k n is held)
 unfolding list_checks judge_instances first_failing
 list_agrees text b k n [] held = agrees_fine refl (append-nil held)
@@ -166,39 +150,39 @@ list_agrees text b k n (i ∷ is) held =
     (agrees_found (instance_fault k i) (instance_checks k i) (walked rest v) (instance_first k i) (list_agrees text b k n is (held ++ (c ∷ []))))))
 
 -- statements
-use_agrees : (text : List ℕ) (b : Enclosing) (n : Name) (is : List Instance) (s : State) (g : Given) → WalkAgrees (walk_use text b n is s g) (judge_use text b n is s g)
+use_agrees : (text : List ℕ) (b : Option Kind) (n : Name) (is : List Instance) (s : State) (g : Option ℕ) → WalkAgrees (walk_use text b n is s g) (judge_use text b n is s g)
 unfolding walk_use judge_use first_failing
-use_agrees text b n is s Nothing = agrees_fault refl
-use_agrees text b n is s (Numbered d) =
+use_agrees text b n is s None = agrees_fault refl
+use_agrees text b n is s (Some d) =
     let k = kind_of (definition_of s.known.table d).component in
     agrees_then (walked (list_checks text b k d is s.held) (held_after d is s.held)) (λ (cs : List Child). with_held s cs) (list_agrees text b k d is s.held)
 
 -- a value that is set has the refusal of its number; one that is refused where a number is wanted is that number
-set-refusal : (w : Wanted) (v : Value) {n : ℕ} → setting_as w (term_of v) ≡ Set n → wanted_refusal w (value_refusal v) ≡ value_refusal v
+set-refusal : (w : Wanted) (v : Value) {n : ℕ} → setting_as w (term_of v) ≡ Some n → wanted_refusal w (value_refusal v) ≡ value_refusal v
 unfolding setting_as
 set-refusal (wanted.Listed l) value.Missing e = refl
-set-refusal (wanted.Listed l) (value.Number x) e = absurd (let z : ◌≡◌ {A = ℕ} 0 1 = cc in omega arith)
+set-refusal (wanted.Listed l) (value.Number x) e = absurd cc
 set-refusal (wanted.Listed l) (value.String p) e = refl
 set-refusal (wanted.Listed l) (value.Word k p) e = refl
 set-refusal (wanted.Short c) value.Missing e = refl
-set-refusal (wanted.Short c) (value.Number x) e = absurd (let z : ◌≡◌ {A = ℕ} 0 1 = cc in omega arith)
+set-refusal (wanted.Short c) (value.Number x) e = absurd cc
 set-refusal (wanted.Short c) (value.String p) e = refl
 set-refusal (wanted.Short c) (value.Word k p) e = refl
 set-refusal wanted.AnyNumber v e = refl
 set-refusal wanted.Width v e = refl
 set-refusal wanted.Alignment v e = refl
 set-refusal wanted.String value.Missing e = refl
-set-refusal wanted.String (value.Number x) e = absurd (let z : ◌≡◌ {A = ℕ} 0 1 = cc in omega arith)
+set-refusal wanted.String (value.Number x) e = absurd cc
 set-refusal wanted.String (value.String p) e = refl
 set-refusal wanted.String (value.Word k p) e = refl
 
-wanted_refused : (w : Wanted) (r : Refusal) {place : ℕ} → wanted_refusal w r ≡ AtOperator place → r ≡ AtOperator place
-wanted_refused (wanted.Listed l) r e = absurd (let z : ◌≡◌ {A = ℕ} 0 1 = cc in omega arith)
-wanted_refused (wanted.Short c) r e = absurd (let z : ◌≡◌ {A = ℕ} 0 1 = cc in omega arith)
+wanted_refused : (w : Wanted) (r : Option ℕ) {place : ℕ} → wanted_refusal w r ≡ Some place → r ≡ Some place
+wanted_refused (wanted.Listed l) r e = absurd cc
+wanted_refused (wanted.Short c) r e = absurd cc
 wanted_refused wanted.AnyNumber r e = e
 wanted_refused wanted.Width r e = e
 wanted_refused wanted.Alignment r e = e
-wanted_refused wanted.String r e = absurd (let z : ◌≡◌ {A = ℕ} 0 1 = cc in omega arith)
+wanted_refused wanted.String r e = absurd cc
 
 settled_agrees : (a : Assigned) (p : Assignment) (l : Slot) (q : Property)
     → WalkAgrees (walked (value_checks q p) (assigned_by (setting_of q p.value) p.defaulted a l)) (judge_settled a p l (refusal_in q p.value) (setting_of q p.value))
@@ -206,16 +190,16 @@ unfolding judge_value first_failing setting_of refusal_in
 settled_agrees a p l q =
     by (refusal_in q p.value) (value_refusal p.value) (setting_of q p.value) (λ n e. set-refusal (wanted_of q) p.value e) (λ place e. wanted_refused (wanted_of q) (value_refusal p.value) e)
   where
-    by : (r o : Refusal) (x : Setting) → ((n : ℕ) → x ≡ Set n → r ≡ o) → ((place : ℕ) → r ≡ AtOperator place → o ≡ AtOperator place)
+    by : (r o : Option ℕ) (x : Option ℕ) → ((n : ℕ) → x ≡ Some n → r ≡ o) → ((place : ℕ) → r ≡ Some place → o ≡ Some place)
         → WalkAgrees (walked (check 9 (value_place p.start p.value) (is_nowhere r && is_wrong x) ∷ operator_checks o) (assigned_by x p.defaulted a l)) (judge_settled a p l r x)
-    by Nowhere o (Set n) f g = let e : Nowhere ≡ o = f n refl in rw (← e) (agrees_fine refl refl)
-    by Nowhere o Wrong f g = agrees_fault refl
-    by (AtOperator place) o x f g = rw (g place refl) (agrees_fault refl)
+    by None o (Some n) f g = let e : None ≡ o = f n refl in rw (← e) (agrees_fine refl refl)
+    by None o None f g = agrees_fault refl
+    by (Some place) o x f g = rw (g place refl) (agrees_fault refl)
 
-known_agrees : (k : Kind) (s : State) (p : Assignment) (x : PropertyLookup) → WalkAgrees (walk_property k s p x) (onward (judge_known k s.assigned p x) (λ a. fine (with_assigned s a)))
+known_agrees : (k : Kind) (s : State) (p : Assignment) (x : Option Property) → WalkAgrees (walk_property k s p x) (onward (judge_known k s.assigned p x) (λ a. fine (with_assigned s a)))
 unfolding walk_property judge_known onward first_failing
-known_agrees k s p Unknown = agrees_fault refl
-known_agrees k s p (Known q) =
+known_agrees k s p None = agrees_fault refl
+known_agrees k s p (Some q) =
     let v = assigned_by (setting_of q p.value) p.defaulted s.assigned (slot_of q) in
     let cs : List Check = value_checks q p in
     let g = is_given (given_in (settings_of p.defaulted s.assigned) (slot_of q)) in
@@ -223,14 +207,14 @@ known_agrees k s p (Known q) =
     (agrees_unless (not (is_allowed p.defaulted q k)) 7 p.start (walked (check 8 p.start g ∷ cs) v)
     (agrees_unless g 8 p.start (walked cs v) (settled_agrees s.assigned p (slot_of q) q)))
 
-setting_agrees : (text : List ℕ) (b : Enclosing) (s : State) (p : Assignment) → WalkAgrees (walk_setting text b s p) (judge_setting text b s p)
+setting_agrees : (text : List ℕ) (b : Option Kind) (s : State) (p : Assignment) → WalkAgrees (walk_setting text b s p) (judge_setting text b s p)
 unfolding walk_setting judge_setting judge_property first_failing
-setting_agrees text Root s p = agrees_fault refl
-setting_agrees text (Inside k) s p = known_agrees k s p (property_of (bytes_of text p.start p.end))
+setting_agrees text None s p = agrees_fault refl
+setting_agrees text (Some k) s p = known_agrees k s p (property_of (bytes_of text p.start p.end))
 
 -- a closing brace: the number 0 means none
-abbrev numbered : ℕ → ℕ → Fault
-numbered zero p = None
+abbrev numbered : ℕ → ℕ → Verdict
+numbered zero p = Accepted
 numbered (suc n) p = Refused (suc n) p
 
 single : (b : Bool) (n p : ℕ) → first_failing (check (suc n) p b ∷ []) ≡ numbered (if b then suc n else 0) p
@@ -269,13 +253,13 @@ close_agrees h outer s p =
     numbered_agrees (close_checks table c s.held p) _ (closing_fault table c s.held) p (close_first table c s.held p)
 
 -- a definition
-name_agrees : {A : Type 0} (text : List ℕ) (here : List VisibleType) (n : DefinedName) (w : Checked A) {j : Judged A} → WalkAgrees w j
+name_agrees : {A : Type 0} (text : List ℕ) (here : List VisibleType) (n : Option Name) (w : Checked A) {j : Judged A} → WalkAgrees w j
     → WalkAgrees (walked (name_checks text here n ++ w.checks) w.result) (unless (type_twice text here n) 6 (name_place n) j)
 unfolding unless
-name_agrees text here Unnamed w h = h
-name_agrees text here (Named n) w h = agrees_unless (type_twice text here (Named n)) 6 n.start w h
+name_agrees text here None w h = h
+name_agrees text here (Some n) w h = agrees_unless (type_twice text here (Some n)) 6 n.start w h
 
-definition_agrees : (text : List ℕ) (b : Enclosing) (outer : Settings) (s : State) (h : Header) (is : List Instance) (w : Checked Made) (body : Settings → State → Judged Made)
+definition_agrees : (text : List ℕ) (b : Option Kind) (outer : Settings) (s : State) (h : Header) (is : List Instance) (w : Checked Made) (body : Settings → State → Judged Made)
     → WalkAgrees w (body (nearest s.assigned.defaults outer) (opening s.known.table s.known.map (s.known.opened + 1)))
     → WalkAgrees (walk_definition text b s h is w) (judge_definition text b outer s h is body)
 unfolding walk_definition judge_definition header_checks
@@ -296,7 +280,7 @@ definition_agrees text b outer s h is w body a =
 mutual
   unfolding walk_elem walk_body judge_elem judge_body
 
-  elem_agrees : (e : Elem) (text : List ℕ) (place : Enclosing) (env : List VisibleType) (outer : Settings) (s : State) → WalkAgrees (walk_elem e text place env outer s) (judge_elem e text place env outer s)
+  elem_agrees : (e : Elem) (text : List ℕ) (place : Option Kind) (env : List VisibleType) (outer : Settings) (s : State) → WalkAgrees (walk_elem e text place env outer s) (judge_elem e text place env outer s)
   elem_agrees (definition h b is) text place env outer s =
       definition_agrees text place outer s h is _ (λ defaults state. judge_body b text h (s.known.here ++ env) defaults state)
       (body_agrees b text h (s.known.here ++ env) (nearest s.assigned.defaults outer) (opening s.known.table s.known.map (s.known.opened + 1)))
@@ -306,15 +290,15 @@ mutual
   body_agrees : (b : Body) (text : List ℕ) (h : Header) (env : List VisibleType) (outer : Settings) (s : State) → WalkAgrees (walk_body b text h env outer s) (judge_body b text h env outer s)
   body_agrees (close p) text h env outer s = close_agrees h outer s p
   body_agrees (more e rest) text h env outer s =
-      let w = walk_elem e text (Inside h.kind) env outer s in
-      agrees_onward w (walk_body rest text h env outer w.result) _ (elem_agrees e text (Inside h.kind) env outer s)
+      let w = walk_elem e text (Some h.kind) env outer s in
+      agrees_onward w (walk_body rest text h env outer w.result) _ (elem_agrees e text (Some h.kind) env outer s)
       (body_agrees rest text h env outer w.result)
 
 -- a file
-map_first : (k : Facts) (g : Given) (p : ℕ) → fault_of (meaning_of k g p) ≡ first_failing (map_check g p ∷ [])
+map_first : (k : Facts) (g : Option ℕ) (p : ℕ) → fault_of (meaning_of k g p) ≡ first_failing (map_check g p ∷ [])
 unfolding first_failing
-map_first k Nothing p = refl
-map_first k (Numbered d) p = refl
+map_first k None p = refl
+map_first k (Some d) p = refl
 
 onward_first : {A B : Type 0} (w : Checked A) {j : Judged A} (k : A → Judged B) (cs : List Check) → WalkAgrees w j → fault_of (k w.result) ≡ first_failing cs → fault_of (onward j k) ≡ first_failing (w.checks ++ cs)
 unfolding onward
@@ -325,9 +309,9 @@ file_first : (b : Body) (text : List ℕ) (s : State) → fault_of (judge_file b
 unfolding judge_file file_checks
 file_first (close p) text s = map_first s.known s.known.map p
 file_first (more e rest) text s =
-    let w = walk_elem e text Root [] no_settings s in
-    onward_first w _ (file_checks rest text w.result) (elem_agrees e text Root [] no_settings s) (file_first rest text w.result)
+    let w = walk_elem e text None [] no_settings s in
+    onward_first w _ (file_checks rest text w.result) (elem_agrees e text None [] no_settings s) (file_first rest text w.result)
 
 pub judge_first : (text : List ℕ) (b : Body) → fault_of (judge text b) ≡ first_failing (checks_of text b)
 unfolding judge checks_of
-judge_first text b = file_first b text (opening [] Nothing 0)
+judge_first text b = file_first b text (opening [] None 0)

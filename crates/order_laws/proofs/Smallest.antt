@@ -9,42 +9,39 @@ use Rattle.chars.proofs.Laws.{differ}
 use Rattle.basics.specs.All.{In, in_here, in_later}
 use Rattle.std.specs.Prelude.{if◌then◌else◌}
 use Rattle.lex.specs.Words.{words_verdict}
-use Rattle.lex.specs.declared.Verdict.{Verdict}
-use Rattle.lex.specs.declared.Verdict.TheVariants.{Accepted, Refused}
 use Rattle.parts.specs.Reading.{ok}
-use Rattle.basics.specs.declared.Fault.TheVariants as finding
 use Rattle.syntax.specs.Tree.{Body}
 use Rattle.syntax.specs.Grammar.{file_at}
-use Rattle.basics.specs.Judged.{Judged, fault, fine}
+use Rattle.basics.specs.Judged.{Judged, fault, fine, Verdict, Accepted, Refused}
 use Rattle.rules.specs.Judge.{Meaning, judge}
 use Rattle.rules.specs.Rules.{after_words, after_sentences, ruled}
 use Rattle.order_laws.specs.Order.{Check, check, checks_of, first_failing, fault_of, Before, Ordered, ordered_none, ordered_on, Foremost}
 use Rattle.order_laws.proofs.First.{judge_first}
 use Rattle.order_laws.proofs.Sorted.{checks_ordered}
 
-apart : {X : Type 0} {n p : ℕ} → finding.None ≡ finding.Refused n p → X
-apart e = absurd (let z : ◌≡◌ {A = ℕ} 0 1 = cc in omega arith)
+apart : {X : Type 0} {n p : ℕ} → Accepted ≡ Refused n p → X
+apart e = absurd cc
 
 -- the first check that fails, or none
-first_none : {c : Check} {cs : List Check} → first_failing cs ≡ finding.None → In c cs → c.fails ≡ false
+first_none : {c : Check} {cs : List Check} → first_failing cs ≡ Accepted → In c cs → c.fails ≡ false
 unfolding first_failing
 first_none {c = c} e (in_here {xs = cs}) = by c.fails e
   where
-    by : (b : Bool) → (if b then finding.Refused c.number c.place else first_failing cs) ≡ finding.None → b ≡ false
+    by : (b : Bool) → (if b then Refused c.number c.place else first_failing cs) ≡ Accepted → b ≡ false
     by true f = apart (sym f)
     by false f = refl
 first_none e (in_later {y = d} {xs = cs} i) = first_none (by d.fails e) i
   where
-    by : (b : Bool) → (if b then finding.Refused d.number d.place else first_failing cs) ≡ finding.None → first_failing cs ≡ finding.None
+    by : (b : Bool) → (if b then Refused d.number d.place else first_failing cs) ≡ Accepted → first_failing cs ≡ Accepted
     by true f = apart (sym f)
     by false f = f
 
-first_among : (cs : List Check) {n p : ℕ} → first_failing cs ≡ finding.Refused n p → In (check n p true) cs
+first_among : (cs : List Check) {n p : ℕ} → first_failing cs ≡ Refused n p → In (check n p true) cs
 unfolding first_failing
 first_among [] e = apart e
 first_among (c ∷ cs) {n} {p} e = by c.fails refl (first_among cs) e
   where
-    by : (b : Bool) → c.fails ≡ b → (first_failing cs ≡ finding.Refused n p → In (check n p true) cs) → (if b then finding.Refused c.number c.place else first_failing cs) ≡ finding.Refused n p → In (check n p true) (c ∷ cs)
+    by : (b : Bool) → c.fails ≡ b → (first_failing cs ≡ Refused n p → In (check n p true) cs) → (if b then Refused c.number c.place else first_failing cs) ≡ Refused n p → In (check n p true) (c ∷ cs)
     by true f r q =
         let x : c.number ≡ n = cc in
         let y : c.place ≡ p = cc in
@@ -60,12 +57,12 @@ not_after : {n p : ℕ} (d c : Check) → d.number ≡ n → d.place ≡ p → B
 not_after d c x y (inl l) = inl (omega arith)
 not_after d c x y (inr w) = inr (sym y ∙ w.0, omega (arith, x, w.1))
 
-first_smallest : {cs : List Check} {n p : ℕ} {c : Check} → Ordered cs → first_failing cs ≡ finding.Refused n p → In c cs → c.fails ≡ true → NotAfter n p c
+first_smallest : {cs : List Check} {n p : ℕ} {c : Check} → Ordered cs → first_failing cs ≡ Refused n p → In c cs → c.fails ≡ true → NotAfter n p c
 unfolding first_failing
 first_smallest {n = n} {p = p} {c = c} ordered_none e x7 f = elim x7 [ ]
 first_smallest {n = n} {p} {c} (ordered_on {cs = cs} o r) e in_here f = by c.fails f e
   where
-    by : (b : Bool) → b ≡ true → (if b then finding.Refused c.number c.place else first_failing cs) ≡ finding.Refused n p → NotAfter n p c
+    by : (b : Bool) → b ≡ true → (if b then Refused c.number c.place else first_failing cs) ≡ Refused n p → NotAfter n p c
     by true g q =
         let x : c.number ≡ n = cc in
         let y : c.place ≡ p = cc in
@@ -73,7 +70,7 @@ first_smallest {n = n} {p} {c} (ordered_on {cs = cs} o r) e in_here f = by c.fai
     by false g q = differ (sym g)
 first_smallest {n = n} {p} {c} (ordered_on {c = d} {cs = cs} o r) e (in_later i) f = by d.fails (o c i) (λ q. first_smallest r q i f) e
   where
-    by : (b : Bool) → Before d c → (first_failing cs ≡ finding.Refused n p → NotAfter n p c) → (if b then finding.Refused d.number d.place else first_failing cs) ≡ finding.Refused n p → NotAfter n p c
+    by : (b : Bool) → Before d c → (first_failing cs ≡ Refused n p → NotAfter n p c) → (if b then Refused d.number d.place else first_failing cs) ≡ Refused n p → NotAfter n p c
     by true w later q =
         let x : d.number ≡ n = cc in
         let y : d.place ≡ p = cc in
@@ -81,10 +78,10 @@ first_smallest {n = n} {p} {c} (ordered_on {c = d} {cs = cs} o r) e (in_later i)
     by false w later q = later q
 
 -- the fault of a text is its first check that fails
-refused : (text : List ℕ) (b : Body) {n p : ℕ} → judge text b ≡ fault n p → first_failing (checks_of text b) ≡ finding.Refused n p
+refused : (text : List ℕ) (b : Body) {n p : ℕ} → judge text b ≡ fault n p → first_failing (checks_of text b) ≡ Refused n p
 refused text b e = sym (judge_first text b) ∙ ap (λ (j : Judged Meaning). fault_of j) e
 
-accepted : (text : List ℕ) (b : Body) {x : Meaning} → judge text b ≡ fine x → first_failing (checks_of text b) ≡ finding.None
+accepted : (text : List ℕ) (b : Body) {x : Meaning} → judge text b ≡ fine x → first_failing (checks_of text b) ≡ Accepted
 accepted text b e = sym (judge_first text b) ∙ ap (λ (j : Judged Meaning). fault_of j) e
 
 -- a text that is accepted has no bad word
@@ -94,7 +91,7 @@ words_accept text {x} = by (words_verdict text)
   where
     by : (v : Verdict) → after_words v (after_sentences text (file_at text)) ≡ fine x → v ≡ Accepted
     by Accepted e = refl
-    by (Refused n p) e = absurd (let z : ◌≡◌ {A = ℕ} 0 1 = cc in omega arith)
+    by (Refused n p) e = absurd cc
 
 module _ (text : List ℕ) {b : Body} {m : ℕ} (sentences : file_at text ≡ ok b m) where
   -- behind the words and the sentences, the rules answer

@@ -9,12 +9,10 @@ use lib.Dec.{ltb}
 use lib.ListN.{length, drop}
 use borrow.Author.Tests.{ltb-true, ltb-false}
 use Rattle.basics.specs.All.{In, in_here, in_later}
-use Rattle.std.specs.Prelude.{if◌then◌else◌}
+use Rattle.std.specs.Prelude.{if◌then◌else◌, Result, Ok, Err, Option, Some, None}
 use Rattle.chars.proofs.Laws.{either, and_right}
 use Rattle.lex.specs.Blank.{next_from}
 use Rattle.lex.specs.Token.{token_past, token_at}
-use Rattle.lex.specs.declared.Next.{Next}
-use Rattle.lex.specs.declared.Next.TheVariants.{At, Unclosed}
 use Rattle.lex.specs.declared.Token.{Token}
 use Rattle.lex.specs.declared.Word.{Word}
 use Rattle.lex.specs.declared.Word.TheVariants as word
@@ -23,10 +21,6 @@ use Rattle.vocabulary.specs.Vocabulary.{property_of}
 use Rattle.vocabulary.specs.declared.Keyword.{Keyword}
 use Rattle.vocabulary.specs.declared.Mark.{Mark}
 use Rattle.vocabulary.specs.declared.Mark.TheVariants as mark
-use Rattle.vocabulary.specs.declared.PropertyLookup.{PropertyLookup}
-use Rattle.vocabulary.specs.declared.PropertyLookup.TheVariants.{Known, Unknown}
-use Rattle.expressions.specs.declared.Refusal.{Refusal}
-use Rattle.expressions.specs.declared.Refusal.TheVariants.{Nowhere, AtOperator}
 use Rattle.expressions.specs.declared.Number.{Number}
 use Rattle.expressions.specs.Grammar.{number_at}
 use Rattle.expressions.proofs.Readings.{HoldsRead, holds_ok, holds_stop, holds_of, holds_more, holds_mapped, holds_then}
@@ -38,22 +32,15 @@ use Rattle.parts.specs.Parts.{closed_by, name_at, array_rest_at, array_at, suffi
 use Rattle.parts.specs.declared.Name.{Name}
 use Rattle.parts.specs.declared.Array.{Array}
 use Rattle.parts.specs.declared.Array.TheVariants as array
-use Rattle.parts.specs.declared.Suffix.{Suffix}
-use Rattle.parts.specs.declared.Suffix.TheVariants as suffix
 use Rattle.parts.specs.declared.SuffixKind.{SuffixKind}
 use Rattle.parts.specs.declared.SuffixKind.TheVariants.{Reset, Address, Stride, Alignment}
 use Rattle.parts.specs.declared.Instance.{Instance}
 use Rattle.parts.specs.declared.ListItem.{ListItem}
 use Rattle.parts.specs.declared.Value.{Value}
 use Rattle.parts.specs.declared.Value.TheVariants as value
-use Rattle.parts.specs.declared.ValueLookup.{ValueLookup}
-use Rattle.parts.specs.declared.ValueLookup.TheVariants.{IsValue, NoValue}
 use Rattle.parts.specs.declared.Assignment.{Assignment}
 use Rattle.parts.specs.declared.Kind.{Kind}
 use Rattle.parts.specs.declared.Kind.TheVariants as kind
-use Rattle.parts.specs.declared.KindLookup.{KindLookup}
-use Rattle.parts.specs.declared.KindLookup.TheVariants.{IsKind, NoKind}
-use Rattle.parts.specs.declared.DefinedName.TheVariants.{Unnamed, Named}
 use Rattle.parts.specs.declared.Header.{Header}
 use Rattle.parts.proofs.Ends.{Ends, ends_of}
 use Rattle.property_values.specs.Settings.{is_field, value_place, value_refusal}
@@ -63,18 +50,15 @@ use Rattle.syntax.specs.Tree.{Elem, definition, instances, property as setting, 
 use Rattle.syntax.specs.Grammar.{instances_from, instances_at, instance_statement_at, statement_at, tail_at, element_at, elements_at, definition_with, definition_at, definitions_from, file_at}
 use Rattle.syntax.proofs.Ends.{definition_ends}
 use Rattle.properties.specs.Assigned.{nearest, no_settings}
-use Rattle.basics.specs.declared.Given.{Given}
-use Rattle.basics.specs.declared.Given.TheVariants.{Nothing, Number as Numbered}
 use Rattle.properties.specs.declared.Settings.{Settings}
 use Rattle.components.specs.Components.{component_of}
 use Rattle.components.specs.declared.Component.{Component}
 use Rattle.components.specs.declared.Component.TheVariants as component
 use Rattle.cells.specs.Definitions.{Child, Definition, VisibleType, lookup}
 use Rattle.identifiers.specs.Names.{bytes_of}
-use Rattle.scopes.specs.declared.Enclosing.{Enclosing}
-use Rattle.scopes.specs.declared.Enclosing.TheVariants.{Root, Inside}
 use Rattle.rules.specs.Judge.{State, opening}
 use Rattle.order_laws.specs.Order.{Check, check, operator_checks, range_operators, array_checks, suffix_checks, instance_checks, list_checks, walk_use, walk_property, walk_setting, close_checks, walk_close, header_checks, walk_definition, walk_elem, walk_body, file_checks, checks_of, Ordered, ordered_none, ordered_on}
+use Rattle.vocabulary.specs.declared.Property.{Property}
 
 -- Checks that rise from `low` on and stay below `high`, by place and then by number: no number reaches 32, so one natural number ranks both.
 pub data Rises : ℕ → List Check → ℕ → Type 0 where
@@ -130,14 +114,14 @@ Names at x n = (at ≤ x.start) × (x.start < n)
 abbrev Arrays : ℕ → Array → ℕ → Type 0
 Arrays at a n = (field : Bool) → Rises (at * 32) (array_checks field a) (n * 32)
 
-abbrev Suffixed : ℕ → Suffix → ℕ → Type 0
+abbrev Suffixed : ℕ → Option (ℕ × Number) → ℕ → Type 0
 Suffixed at x n = (barred : Bool) (s : SuffixKind) → Rises (at * 32) (suffix_checks barred s x) (n * 32)
 
 record Bare (at : ℕ) (m : Name) (a : Array) (n : ℕ) : Type 0 where
   pub named : at ≤ m.start
   pub array : Arrays (suc m.start) a n
 
-record Then (P : ℕ → Type 0) (x : Suffix) (n : ℕ) : Type 0 where
+record Then (P : ℕ → Type 0) (x : Option (ℕ × Number)) (n : ℕ) : Type 0 where
   pub mid : ℕ
   pub base : P mid
   pub last : Suffixed mid x n
@@ -147,7 +131,7 @@ record InstanceRises (at : ℕ) (i : Instance) (n : ℕ) : Type 0 where
   pub rest : (k : Kind) → Rises (suc i.name.start * 32) (instance_checks k i) (n * 32)
 
 abbrev Listing : ℕ → List Instance → ℕ → Type 0
-Listing at is n = (text : List ℕ) (b : Enclosing) (k : Kind) (d : ℕ) (held : List Child) → Rises (at * 32) (list_checks text b k d is held) (n * 32)
+Listing at is n = (text : List ℕ) (b : Option Kind) (k : Kind) (d : ℕ) (held : List Child) → Rises (at * 32) (list_checks text b k d is held) (n * 32)
 
 record ValueRises (at : ℕ) (v : Value) (n q : ℕ) : Type 0 where
   pub first : at ≤ value_place q v
@@ -159,10 +143,10 @@ record Set (at : ℕ) (p : Assignment) (n : ℕ) : Type 0 where
   pub value : ValueRises p.start p.value n p.start
 
 abbrev Headed : ℕ → Header → ℕ → Type 0
-Headed at h n = (text : List ℕ) (b : Enclosing) (s : State) → Rises (at * 32) (header_checks text b s h) (n * 32)
+Headed at h n = (text : List ℕ) (b : Option Kind) (s : State) → Rises (at * 32) (header_checks text b s h) (n * 32)
 
 abbrev Walks : ℕ → Elem → ℕ → Type 0
-Walks at e n = (text : List ℕ) (b : Enclosing) (env : List VisibleType) (outer : Settings) (s : State) → Rises (at * 32) (walk_elem e text b env outer s).checks (n * 32)
+Walks at e n = (text : List ℕ) (b : Option Kind) (env : List VisibleType) (outer : Settings) (s : State) → Rises (at * 32) (walk_elem e text b env outer s).checks (n * 32)
 
 abbrev Bodies : ℕ → Body → ℕ → Type 0
 Bodies at b n = (text : List ℕ) (h : Header) (env : List VisibleType) (outer : Settings) (s : State) → Rises (at * 32) (walk_body b text h env outer s).checks (n * 32)
@@ -176,9 +160,9 @@ module _ (t : List ℕ) where
   unfolding token_at
   token_lies at n = by (next_from t at) (next_found t at (omega (arith, token_inside t at n))) n
     where
-      by : (x : Next) → Found at at (length t) x → ((token_past t x).word ≡ word.End → ⊥) → (at ≤ (token_past t x).start) × ((token_past t x).start < (token_past t x).end)
-      by (At i) f n = let l = from_lies i (drop i t) in (omega (arith, l.starts, f), omega (arith, l.starts, l.moves n))
-      by (Unclosed o) f n = (omega arith, omega arith)
+      by : (x : Result ℕ ℕ) → Found at at (length t) x → ((token_past t x).word ≡ word.End → ⊥) → (at ≤ (token_past t x).start) × ((token_past t x).start < (token_past t x).end)
+      by (Ok i) f n = let l = from_lies i (drop i t) in (omega (arith, l.starts, f), omega (arith, l.starts, l.moves n))
+      by (Err o) f n = (omega arith, omega arith)
 
   test_lies : (P : Word → Bool) (at : ℕ) → P word.End ≡ false → P (token_at t at).word ≡ true → (at ≤ (token_at t at).start) × ((token_at t at).start < (token_at t at).end)
   test_lies P at n y = token_lies at (λ e. differ (rw e at y))
@@ -186,8 +170,7 @@ module _ (t : List ℕ) where
       differ : P word.End ≡ true → ⊥
       differ z =
           let f : false ≡ true = sym n ∙ z in
-          let o : ◌≡◌ {A = ℕ} 0 1 = cc in
-          omega arith
+          cc
 
   mark_lies : (m : Mark) (at : ℕ) → is_mark m (token_at t at).word ≡ true → (at ≤ (token_at t at).start) × ((token_at t at).start < (token_at t at).end)
   unfolding is_mark
@@ -206,9 +189,9 @@ module _ (t : List ℕ) where
   unfolding name_at
   name_holds at = either (HoldsRead (Names at)) (is_name (token_at t at).word) (λ y. holds_ok (name_lies at y)) (λ _. holds_stop)
 
-  operator_rises : (r : Refusal) (low n : ℕ) → low ≤ n → ((p : ℕ) → r ≡ AtOperator p → (low ≤ p) × (p < n)) → Rises (low * 32) (operator_checks r) (n * 32)
-  operator_rises Nowhere low n l f = rises_none {low = low * 32} {high = n * 32} (omega arith)
-  operator_rises (AtOperator p) low n l f = let w = f p refl in on 9 p true (omega arith) (omega arith) (rises_none (omega arith))
+  operator_rises : (r : Option ℕ) (low n : ℕ) → low ≤ n → ((p : ℕ) → r ≡ Some p → (low ≤ p) × (p < n)) → Rises (low * 32) (operator_checks r) (n * 32)
+  operator_rises None low n l f = rises_none {low = low * 32} {high = n * 32} (omega arith)
+  operator_rises (Some p) low n l f = let w = f p refl in on 9 p true (omega arith) (omega arith) (rises_none (omega arith))
 
   numbers_hold : (at : ℕ) → HoldsRead (Numbers at) (number_at t at)
   numbers_hold at = holds_more lies (number_holds t at)
@@ -257,7 +240,7 @@ module _ (t : List ℕ) where
       (λ _. holds_ok (λ field. rises_none (omega arith)))
 
   -- a suffix
-  suffix_given : (at p : ℕ) (x : Number) (n : ℕ) → at ≤ p → Numbers (suc p) x n → Suffixed at (suffix.Given p x) n
+  suffix_given : (at p : ℕ) (x : Number) (n : ℕ) → at ≤ p → Numbers (suc p) x n → Suffixed at (Some (p, x)) n
   suffix_given at p x n a h barred s =
       on 11 p _ (omega arith) (omega arith)
       (on 9 x.place _ (omega (arith, h.first)) (omega arith) (rises_low (omega arith) h.operators))
@@ -267,7 +250,7 @@ module _ (t : List ℕ) where
   suffix_holds s at =
       either (HoldsRead (Suffixed at)) (is_mark (suffix_mark s) (token_at t at).word)
       (λ y. let w = mark_lies (suffix_mark s) at y in
-      holds_mapped (suffix.Given (token_at t at).start) (λ x n h. suffix_given at (token_at t at).start x n w.0 (numbers_behind w.1 h)) (numbers_hold (token_at t at).end))
+      holds_mapped (λ (x : Number). Some ((token_at t at).start, x)) (λ x n h. suffix_given at (token_at t at).start x n w.0 (numbers_behind w.1 h)) (numbers_hold (token_at t at).end))
       (λ _. holds_ok (λ barred k. rises_none (omega arith)))
 
   -- an instance
@@ -369,17 +352,17 @@ module _ (t : List ℕ) where
       (λ y. holds_ok (list_none at (token_at t at).end (omega (arith, mark_lies mark.Semicolon at (and_right named _ y))))) (λ _. instances_holds at)
 
   -- a property statement
-  value_in_place : (w : Word) (p q : ℕ) {v : Value} → value_in w p ≡ IsValue v → ((value_place q v ≡ p) × (value_refusal v ≡ Nowhere)) × (w ≡ word.End → ⊥)
-  value_in_place w p q {v} e = (by w e, λ z. let f : NoValue ≡ IsValue v = rw z at e in let o : ◌≡◌ {A = ℕ} 0 1 = cc in omega arith)
+  value_in_place : (w : Word) (p q : ℕ) {v : Value} → value_in w p ≡ Some v → ((value_place q v ≡ p) × (value_refusal v ≡ None)) × (w ≡ word.End → ⊥)
+  value_in_place w p q {v} e = (by w e, λ z. let f : None ≡ Some v = rw z at e in cc)
     where
-      none : {X : Type 0} → NoValue ≡ IsValue v → X
-      none f = absurd (let o : ◌≡◌ {A = ℕ} 0 1 = cc in omega arith)
+      none : {X : Type 0} → None ≡ Some v → X
+      none f = absurd cc
 
-      chosen : (k : Keyword) (b : Bool) → (if b then IsValue (value.Word k p) else NoValue) ≡ IsValue v → (value_place q v ≡ p) × (value_refusal v ≡ Nowhere)
+      chosen : (k : Keyword) (b : Bool) → (if b then Some (value.Word k p) else None) ≡ Some v → (value_place q v ≡ p) × (value_refusal v ≡ None)
       chosen k true f = let z : value.Word k p ≡ v = cc in rw (← z) (refl, refl)
       chosen k false f = none f
 
-      by : (w : Word) → value_in w p ≡ IsValue v → (value_place q v ≡ p) × (value_refusal v ≡ Nowhere)
+      by : (w : Word) → value_in w p ≡ Some v → (value_place q v ≡ p) × (value_refusal v ≡ None)
       by word.End f = none f
       by word.Name f = none f
       by (word.Keyword k) f = chosen k (role_value (role_of k)) f
@@ -392,13 +375,13 @@ module _ (t : List ℕ) where
   unfolding value_at
   value_holds at q = by (value_in (token_at t at).word (token_at t at).start) refl
     where
-      by : (x : ValueLookup) → value_in (token_at t at).word (token_at t at).start ≡ x → HoldsRead (λ v n. ValueRises at v n q) (value_or x (token_at t at).end (mapped value.Number (number_at t at)))
-      by (IsValue v) e =
+      by : (x : Option Value) → value_in (token_at t at).word (token_at t at).start ≡ x → HoldsRead (λ v n. ValueRises at v n q) (value_or x (token_at t at).end (mapped value.Number (number_at t at)))
+      by (Some v) e =
           let w = value_in_place (token_at t at).word (token_at t at).start q e in
           let l = token_lies at w.1 in
           holds_ok {a = v} {n = (token_at t at).end}
           (record { first = omega (arith, w.0.0, l); before = omega (arith, w.0.0, l); operators = rw w.0.1 (rises_none {low = suc (value_place q v) * 32} {high = (token_at t at).end * 32} (omega (arith, w.0.0, l))) })
-      by NoValue e = holds_mapped value.Number (λ x n h. record { first = h.first; before = h.before; operators = h.operators }) (numbers_hold at)
+      by None e = holds_mapped value.Number (λ x n h. record { first = h.first; before = h.before; operators = h.operators }) (numbers_hold at)
 
   setting_holds : (low : ℕ) (d : Bool) (w : Token) (at : ℕ) → low ≤ w.start → w.start < at → HoldsRead (Set low) (setting_at d w t at)
   unfolding setting_at
@@ -437,25 +420,25 @@ module _ (t : List ℕ) where
       one : Rises (at * 32) (check 7 p.start true ∷ operator_checks (value_refusal p.value)) (n * 32)
       one = on 7 p.start _ (omega (arith, w.start)) (omega arith) (rises_low (omega (arith, v.first)) v.operators)
 
-      known : (k : Kind) (x : PropertyLookup) → Rises (at * 32) (walk_property k s p x).checks (n * 32)
-      known k Unknown = one
-      known k (Known q) =
+      known : (k : Kind) (x : Option Property) → Rises (at * 32) (walk_property k s p x).checks (n * 32)
+      known k None = one
+      known k (Some q) =
           on 7 p.start _ (omega (arith, w.start)) (omega arith)
           (on 8 p.start _ (omega arith) (omega arith)
           (on 9 (value_place p.start p.value) _ (omega (arith, v.first)) (omega arith) (rises_low (omega arith) v.operators)))
 
-      by : (b : Enclosing) → Rises (at * 32) (walk_setting text b s p).checks (n * 32)
-      by Root = one
-      by (Inside k) = known k (property_of (bytes_of text p.start p.end))
+      by : (b : Option Kind) → Rises (at * 32) (walk_setting text b s p).checks (n * 32)
+      by None = one
+      by (Some k) = known k (property_of (bytes_of text p.start p.end))
 
   -- an instance statement
   use_walks : (at : ℕ) (m : Name) (next : ℕ) → Names at m next → (is : List Instance) (n : ℕ) → Listing next is n → Walks at (instances m is) n
   unfolding walk_elem walk_use
   use_walks at m next h is n l text b env outer s = by (lookup text m (s.known.here ++ env))
     where
-      by : (g : Given) → Rises (at * 32) (walk_use text b m is s g).checks (n * 32)
-      by Nothing = on 5 m.start _ (omega (arith, h)) (omega arith) (rises_none (omega (arith, h, rises_le (l text b kind.Reg 0 []))))
-      by (Numbered d) = rises_low (omega (arith, h)) (l text b _ d s.held)
+      by : (g : Option ℕ) → Rises (at * 32) (walk_use text b m is s g).checks (n * 32)
+      by None = on 5 m.start _ (omega (arith, h)) (omega arith) (rises_none (omega (arith, h, rises_le (l text b kind.Reg 0 []))))
+      by (Some d) = rises_low (omega (arith, h)) (l text b _ d s.held)
 
   statement_holds : (at : ℕ) → HoldsRead (Walks at) (statement_at t at)
   unfolding statement_at instance_statement_at
@@ -465,14 +448,14 @@ module _ (t : List ℕ) where
       (λ _. holds_mapped setting (property_walks at) (property_holds at))
 
   -- a definition's head
-  head_plain : (at : ℕ) (h : Header) (n : ℕ) → at ≤ h.place → h.place < n → h.name ≡ Unnamed → Headed at h n
+  head_plain : (at : ℕ) (h : Header) (n : ℕ) → at ≤ h.place → h.place < n → h.name ≡ None → Headed at h n
   unfolding header_checks
   head_plain at h n a b e text place s =
       rw e
       (on 10 h.place _ (omega arith) (omega arith)
       (on 18 h.place _ (omega arith) (omega arith) (rises_none (omega arith))))
 
-  head_named : (at : ℕ) (h : Header) (m : Name) (n : ℕ) → at ≤ h.place → h.place < m.start → m.start < n → h.name ≡ Named m → Headed at h n
+  head_named : (at : ℕ) (h : Header) (m : Name) (n : ℕ) → at ≤ h.place → h.place < m.start → m.start < n → h.name ≡ Some m → Headed at h n
   unfolding header_checks
   head_named at h m n a b c e text place s =
       rw e
@@ -496,15 +479,14 @@ module _ (t : List ℕ) where
   unfolding header_at kind_of
   head_holds at = by (kind_of (token_at t at).word) refl
     where
-      none : {c : Kind} → kind_of (token_at t at).word ≡ IsKind c → (token_at t at).word ≡ word.End → ⊥
+      none : {c : Kind} → kind_of (token_at t at).word ≡ Some c → (token_at t at).word ≡ word.End → ⊥
       none {c} e z =
-          let f : NoKind ≡ IsKind c = rw z at e in
-          let o : ◌≡◌ {A = ℕ} 0 1 = cc in
-          omega arith
+          let f : None ≡ Some c = rw z at e in
+          cc
 
-      by : (x : KindLookup) → kind_of (token_at t at).word ≡ x → HoldsRead (Headed at) (header_of x (token_at t at) t)
-      by (IsKind c) e = let w = token_lies at (none e) in head_rest_holds at c (token_at t at).start (token_at t at).end w.0 w.1
-      by NoKind e = holds_stop
+      by : (x : Option Kind) → kind_of (token_at t at).word ≡ x → HoldsRead (Headed at) (header_of x (token_at t at) t)
+      by (Some c) e = let w = token_lies at (none e) in head_rest_holds at c (token_at t at).start (token_at t at).end w.0 w.1
+      by None e = holds_stop
 
   -- a closing brace
   close_rises : (table : List Definition) (c : Component) (cs : List Child) (at p n : ℕ) → at ≤ p → p < n → Rises (at * 32) (close_checks table c cs p) (n * 32)
@@ -526,7 +508,7 @@ module _ (t : List ℕ) where
 
   more_walks : (at : ℕ) (e : Elem) (n : ℕ) → Walks at e n → (b : Body) (m : ℕ) → Bodies n b m → Bodies at (more e b) m
   unfolding walk_body
-  more_walks at e n w b m r text h env outer s = rises_append (w text (Inside h.kind) env outer s) (r text h env outer _)
+  more_walks at e n w b m r text h env outer s = rises_append (w text (Some h.kind) env outer s) (r text h env outer _)
 
   -- a body, with a reader of definitions
   module _ (d : ℕ → Parsed Elem) (walks : (at : ℕ) → HoldsRead (Walks at) (d at)) where
@@ -567,7 +549,7 @@ module _ (t : List ℕ) where
 
   more_files : (at : ℕ) (e : Elem) (n : ℕ) → Walks at e n → (b : Body) (m : ℕ) → Files n b m → Files at (more e b) m
   unfolding file_checks
-  more_files at e n w b m r text s = rises_append (w text Root [] no_settings s) (r text _)
+  more_files at e n w b m r text s = rises_append (w text None [] no_settings s) (r text _)
 
   -- what was read of a definition, and that it ends within the text
   inner : (at : ℕ) → HoldsRead (λ e n. Walks at e n × (n ≤ length t)) (definition_at body_limit t at)
@@ -591,4 +573,4 @@ module _ (t : List ℕ) where
 
 pub checks_ordered : (text : List ℕ) {b : Body} {n : ℕ} → file_at text ≡ ok b n → Ordered (checks_of text b)
 unfolding checks_of
-checks_ordered text e = rises_ordered (holds_of (file_holds text) e text (opening [] Nothing 0))
+checks_ordered text e = rises_ordered (holds_of (file_holds text) e text (opening [] None 0))

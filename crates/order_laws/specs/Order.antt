@@ -1,43 +1,29 @@
 -- Every check of the rules 5 to 18 in a text, each with its number, its place and whether it fails, by a walk that goes on behind a
 -- fault. Behind words and sentences the rules answer the failing check of the smallest place, then of the smallest number
 -- (proofs/Smallest; of the compiler, compile_laws/proofs/Firsts).
-use Rattle.std.specs.Prelude.{Bool, true, false, ◌||◌, ◌&&◌, not, List, [], ◌∷◌, ◌++◌, map, ◌⊎◌, ◌≡◌, ℕ, ◌+◌, ◌<◌, ◌≤◌, leb, ltb}
+use Rattle.std.specs.Prelude.{Bool, true, false, ◌||◌, ◌&&◌, not, List, [], ◌∷◌, ◌++◌, map, ◌⊎◌, ◌≡◌, ℕ, ◌+◌, ◌<◌, ◌≤◌, leb, ltb, Option, Some, None}
 use Rattle.basics.specs.All.{In}
 use Rattle.std.specs.Prelude.{if◌then◌else◌}
 use Rattle.vocabulary.specs.Vocabulary.{property_of}
 use Rattle.vocabulary.specs.declared.Property.{Property}
-use Rattle.vocabulary.specs.declared.PropertyLookup.{PropertyLookup}
-use Rattle.vocabulary.specs.declared.PropertyLookup.TheVariants.{Known, Unknown}
-use Rattle.expressions.specs.declared.Refusal.{Refusal}
-use Rattle.expressions.specs.declared.Refusal.TheVariants.{Nowhere, AtOperator}
 use Rattle.expressions.specs.declared.Number.{Number}
 use Rattle.parts.specs.declared.Name.{Name}
 use Rattle.parts.specs.declared.Kind.{Kind}
 use Rattle.parts.specs.declared.Array.{Array}
 use Rattle.parts.specs.declared.Array.TheVariants as array
-use Rattle.parts.specs.declared.Suffix.{Suffix}
-use Rattle.parts.specs.declared.Suffix.TheVariants as suffix
 use Rattle.parts.specs.declared.SuffixKind.{SuffixKind}
 use Rattle.parts.specs.declared.SuffixKind.TheVariants.{Reset, Address, Stride, Alignment}
 use Rattle.parts.specs.declared.Instance.{Instance}
 use Rattle.parts.specs.declared.Header.{Header}
-use Rattle.parts.specs.declared.DefinedName.{DefinedName}
-use Rattle.parts.specs.declared.DefinedName.TheVariants.{Unnamed, Named}
 use Rattle.parts.specs.declared.Assignment.{Assignment}
 use Rattle.property_values.specs.Settings.{is_field, is_allowed, slot_of, setting_of, value_place, value_refusal, refusal_in}
-use Rattle.property_values.specs.declared.Setting.{Setting}
-use Rattle.property_values.specs.declared.Setting.TheVariants.{Set, Wrong}
 use Rattle.property_values.specs.declared.Slot.{Slot}
 use Rattle.suffixes.specs.Suffixes.{is_size, is_range, suffix_range, is_barred}
-use Rattle.basics.specs.declared.Fault.{Fault}
-use Rattle.basics.specs.declared.Fault.TheVariants.{None, Refused}
 use Rattle.syntax.specs.Tree.{Elem, definition, instances, property, Body, close, more}
 use Rattle.identifiers.specs.Names.{bytes_of, is_among}
-use Rattle.basics.specs.Judged.{Judged, fault, fine}
+use Rattle.basics.specs.Judged.{Judged, fault, fine, Verdict, Accepted, Refused}
 use Rattle.basics.specs.Given.{is_given}
 use Rattle.properties.specs.Assigned.{given_in, settings_of, assigned, nearest, no_settings}
-use Rattle.basics.specs.declared.Given.{Given}
-use Rattle.basics.specs.declared.Given.TheVariants.{Nothing, Number as Numbered}
 use Rattle.properties.specs.declared.Settings.{Settings}
 use Rattle.properties.specs.declared.Assigned.{Assigned}
 use Rattle.components.specs.Components.{component_of, kind_of}
@@ -48,8 +34,6 @@ use Rattle.fields.specs.declared.Probe.TheVariants.{Wide, Outside, Span}
 use Rattle.cells.specs.Definitions.{Child, Definition, definition_of, names_of, name_or, VisibleType, lookup}
 use Rattle.closing_rules.specs.Registers.{fields_of, some, overlaps, is_empty}
 use Rattle.scopes.specs.Places.{may_define, may_hold, is_bad_map}
-use Rattle.scopes.specs.declared.Enclosing.{Enclosing}
-use Rattle.scopes.specs.declared.Enclosing.TheVariants.{Root, Inside}
 use Rattle.basics.specs.Limits.{definition_limit}
 use Rattle.rules.specs.Judge.{State, opening, with_assigned, with_held, type_twice, Made, last_of, declared}
 
@@ -63,13 +47,13 @@ check n p b = record { number = n; place = p; fails = b }
 
 -- "refusal 9 at the operator": of a number's operators at fault the first (where one is at fault there is such a check, and none at fault
 -- stands before it: `faults_covered`, expressions/proofs/Faults)
-abbrev pub operator_checks : Refusal → List Check
-operator_checks Nowhere = []
-operator_checks (AtOperator p) = check 9 p true ∷ []
+abbrev pub operator_checks : Option ℕ → List Check
+operator_checks None = []
+operator_checks (Some p) = check 9 p true ∷ []
 
-abbrev pub is_nowhere : Refusal → Bool
-is_nowhere Nowhere = true
-is_nowhere (AtOperator p) = false
+abbrev pub is_nowhere : Option ℕ → Bool
+is_nowhere None = true
+is_nowhere (Some p) = false
 
 -- 9 at a number that is out of its range, where no part of it is refused; then 9 at its operator
 abbrev pub number_checks : Bool → Number → List Check
@@ -87,9 +71,9 @@ array_checks true (array.Range mark left right) =
     check 9 left.place ((is_nowhere left.refusal && is_nowhere right.refusal) && not (is_range left.value right.value)) ∷ range_operators left right
 array_checks false (array.Range mark left right) = check 11 mark true ∷ range_operators left right
 
-abbrev pub suffix_checks : Bool → SuffixKind → Suffix → List Check
-suffix_checks barred s suffix.Missing = []
-suffix_checks barred s (suffix.Given mark n) = check 11 mark barred ∷ number_checks (suffix_range s n.value) n
+abbrev pub suffix_checks : Bool → SuffixKind → Option (ℕ × Number) → List Check
+suffix_checks barred s None = []
+suffix_checks barred s (Some (mark, n)) = check 11 mark barred ∷ number_checks (suffix_range s n.value) n
 
 unfoldable pub instance_checks : Kind → Instance → List Check
 instance_checks k i =
@@ -100,7 +84,7 @@ instance_checks k i =
     suffix_checks (is_barred Alignment (is_field k) i) Alignment i.alignment)))
 
 -- 6 and 10 at the name, then 9 and 11
-unfoldable pub list_checks : List ℕ → Enclosing → Kind → ℕ → List Instance → List Child → List Check
+unfoldable pub list_checks : List ℕ → Option Kind → Kind → ℕ → List Instance → List Child → List Check
 list_checks text b k n [] held = []
 list_checks text b k n (i ∷ is) held =
     check 6 i.name.start (is_among text i.name (names_of held)) ∷
@@ -119,37 +103,37 @@ abbrev pub walked : {A : Type 0} → List Check → A → Checked A
 walked cs a = record { checks = cs; result = a }
 
 -- 5: an instance statement
-unfoldable pub walk_use : List ℕ → Enclosing → Name → List Instance → State → Given → Checked State
-walk_use text b n is s Nothing = walked (check 5 n.start true ∷ []) s
-walk_use text b n is s (Numbered d) =
+unfoldable pub walk_use : List ℕ → Option Kind → Name → List Instance → State → Option ℕ → Checked State
+walk_use text b n is s None = walked (check 5 n.start true ∷ []) s
+walk_use text b n is s (Some d) =
     walked (list_checks text b (kind_of (definition_of s.known.table d).component) d is s.held) (with_held s (held_after d is s.held))
 
 -- 7, 8, 9: a property statement; behind a refused value the walk goes on as if it were 0
-abbrev pub is_wrong : Setting → Bool
-is_wrong (Set n) = false
-is_wrong Wrong = true
+abbrev pub is_wrong : Option ℕ → Bool
+is_wrong (Some n) = false
+is_wrong None = true
 
-abbrev pub assigned_by : Setting → Bool → Assigned → Slot → Assigned
-assigned_by (Set n) d a l = assigned d a l n
-assigned_by Wrong d a l = a
+abbrev pub assigned_by : Option ℕ → Bool → Assigned → Slot → Assigned
+assigned_by (Some n) d a l = assigned d a l n
+assigned_by None d a l = a
 
 -- 9 at a value of wrong kind or range, no range being judged over a refused part; then 9 at its operator
 abbrev pub value_checks : Property → Assignment → List Check
 value_checks q p =
     check 9 (value_place p.start p.value) (is_nowhere (refusal_in q p.value) && is_wrong (setting_of q p.value)) ∷ operator_checks (value_refusal p.value)
 
-unfoldable pub walk_property : Kind → State → Assignment → PropertyLookup → Checked State
-walk_property k s p Unknown = walked (check 7 p.start true ∷ operator_checks (value_refusal p.value)) s
-walk_property k s p (Known q) =
+unfoldable pub walk_property : Kind → State → Assignment → Option Property → Checked State
+walk_property k s p None = walked (check 7 p.start true ∷ operator_checks (value_refusal p.value)) s
+walk_property k s p (Some q) =
     walked
     (check 7 p.start (not (is_allowed p.defaulted q k)) ∷
     check 8 p.start (is_given (given_in (settings_of p.defaulted s.assigned) (slot_of q))) ∷
     value_checks q p)
     (with_assigned s (assigned_by (setting_of q p.value) p.defaulted s.assigned (slot_of q)))
 
-unfoldable pub walk_setting : List ℕ → Enclosing → State → Assignment → Checked State
-walk_setting text Root s p = walked (check 7 p.start true ∷ operator_checks (value_refusal p.value)) s
-walk_setting text (Inside k) s p = walk_property k s p (property_of (bytes_of text p.start p.end))
+unfoldable pub walk_setting : List ℕ → Option Kind → State → Assignment → Checked State
+walk_setting text None s p = walked (check 7 p.start true ∷ operator_checks (value_refusal p.value)) s
+walk_setting text (Some k) s p = walk_property k s p (property_of (bytes_of text p.start p.end))
 
 -- 10 and 12 to 17 at a closing brace
 unfoldable pub close_checks : List Definition → Component → List Child → ℕ → List Check
@@ -171,24 +155,24 @@ walk_close h outer s p =
     walked (close_checks table c s.held p) (record { table = table ++ (record { name = name_or h.name; component = c; instances = s.held } ∷ []); opened = s.known.opened })
 
 -- 10 and 18 at a kind word, 6 at a type's name
-abbrev pub name_checks : List ℕ → List VisibleType → DefinedName → List Check
-name_checks text here Unnamed = []
-name_checks text here (Named n) = check 6 n.start (type_twice text here (Named n)) ∷ []
+abbrev pub name_checks : List ℕ → List VisibleType → Option Name → List Check
+name_checks text here None = []
+name_checks text here (Some n) = check 6 n.start (type_twice text here (Some n)) ∷ []
 
-unfoldable pub header_checks : List ℕ → Enclosing → State → Header → List Check
+unfoldable pub header_checks : List ℕ → Option Kind → State → Header → List Check
 header_checks text b s h =
     check 10 h.place (not (may_define b h.kind) || is_bad_map s.known.map h) ∷
     check 18 h.place (leb definition_limit s.known.opened) ∷
     name_checks text s.known.here h.name
 
-unfoldable pub walk_definition : List ℕ → Enclosing → State → Header → List Instance → Checked Made → Checked State
+unfoldable pub walk_definition : List ℕ → Option Kind → State → Header → List Instance → Checked Made → Checked State
 walk_definition text b s h is body =
     let m = body.result in
     walked (header_checks text b s h ++ (body.checks ++ list_checks text b h.kind (last_of m.table) is s.held))
     (with_held (declared s h m) (held_after (last_of m.table) is s.held))
 
 unfoldable mutual
-  pub walk_elem : Elem → List ℕ → Enclosing → List VisibleType → Settings → State → Checked State
+  pub walk_elem : Elem → List ℕ → Option Kind → List VisibleType → Settings → State → Checked State
   walk_elem (definition h b is) text place env outer s =
       walk_definition text place s h is
       (walk_body b text h (s.known.here ++ env) (nearest s.assigned.defaults outer) (opening s.known.table s.known.map (s.known.opened + 1)))
@@ -198,30 +182,30 @@ unfoldable mutual
   pub walk_body : Body → List ℕ → Header → List VisibleType → Settings → State → Checked Made
   walk_body (close p) text h env outer s = walk_close h outer s p
   walk_body (more e rest) text h env outer s =
-      let w = walk_elem e text (Inside h.kind) env outer s in
+      let w = walk_elem e text (Some h.kind) env outer s in
       let r = walk_body rest text h env outer w.result in
       walked (w.checks ++ r.checks) r.result
 
 -- 10 for "no addrmap", at the text's end
-abbrev pub map_check : Given → ℕ → Check
+abbrev pub map_check : Option ℕ → ℕ → Check
 map_check map p = check 10 p (not (is_given map))
 
 unfoldable pub file_checks : Body → List ℕ → State → List Check
 file_checks (close p) text s = map_check s.known.map p ∷ []
-file_checks (more e rest) text s = let w = walk_elem e text Root [] no_settings s in w.checks ++ file_checks rest text w.result
+file_checks (more e rest) text s = let w = walk_elem e text None [] no_settings s in w.checks ++ file_checks rest text w.result
 
 unfoldable pub checks_of : List ℕ → Body → List Check
-checks_of text b = file_checks b text (opening [] Nothing 0)
+checks_of text b = file_checks b text (opening [] None 0)
 
 -- the first check that fails
-unfoldable pub first_failing : List Check → Fault
-first_failing [] = None
+unfoldable pub first_failing : List Check → Verdict
+first_failing [] = Accepted
 first_failing (c ∷ cs) = if c.fails then Refused c.number c.place else first_failing cs
 
 -- the fault that a rule found
-abbrev pub fault_of : {A : Type 0} → Judged A → Fault
+abbrev pub fault_of : {A : Type 0} → Judged A → Verdict
 fault_of (fault n p) = Refused n p
-fault_of (fine a) = None
+fault_of (fine a) = Accepted
 
 -- "the smallest place, then the smallest number"
 abbrev pub Before : Check → Check → Type 0

@@ -12,11 +12,9 @@ use Rattle.parts.specs.declared.Kind.TheVariants as kind
 use Rattle.fields.specs.Codes.{access_code}
 use Rattle.fields.specs.declared.AccessRight.TheVariants as access
 use Rattle.basics.specs.Limits.{definition_limit}
-use Rattle.basics.specs.declared.Given.{Given}
 use Rattle.components.specs.Fields.{field_at}
 use Rattle.components.specs.Components.{kind_of}
 use Rattle.fields.specs.declared.BitPlace.{BitPlace}
-use Rattle.fields.specs.declared.FieldType.{FieldType}
 use Rattle.fields.specs.declared.FieldAt.{FieldAt}
 use Rattle.fields.specs.declared.Register.{Register}
 use Rattle.components.specs.declared.Component.{Component}
@@ -27,7 +25,6 @@ use Rattle.cells.specs.Definitions.{Child, Definition, definition_of}
 use Rattle.cells.specs.Relation.{Block}
 use Rattle.closing_rules.specs.Registers.{placement, bit_above, with_placed, fields_from, first_bit, fields_of, closing_fault}
 use Rattle.scopes.specs.Places.{may_hold}
-use Rattle.scopes.specs.declared.Enclosing.TheVariants.{Inside}
 use Rattle.definition_laws.specs.Sensible.{ChildrenFit, children_none, children_more}
 use Rattle.sizes.specs.declared.Extent.{Extent}
 use Rattle.sizes.specs.Ready.{known, Ready}
@@ -35,20 +32,7 @@ use Rattle.sizes.proofs.Rows.{RowFits}
 use Rattle.sizes.proofs.Laws.{ready_is_row, ready_row, ready_block, ready_count, Ahead, ahead_of, none_left}
 use Rattle.map_rules.specs.Whole.{every_access, has_access}
 use Rattle.overlaps.specs.Charted.{has_in}
-
--- a component's access
-module _ (a : ℕ) (c : Component) where
-  pub access_field : {f : FieldType} → c ≡ component.Field f → eqb f.sw a ≡ has_in a c
-  access_field e = ap (has_in a) (sym e)
-
-  pub access_register : {r : Register} → c ≡ component.Register r → true ≡ has_in a c
-  access_register e = ap (has_in a) (sym e)
-
-  pub access_regfile : {l : Given} → c ≡ component.Regfile l → true ≡ has_in a c
-  access_regfile e = ap (has_in a) (sym e)
-
-  pub access_map : {l m : Given} → c ≡ component.Addrmap l m → true ≡ has_in a c
-  access_map e = ap (has_in a) (sym e)
+use Rattle.std.specs.Prelude.{Some}
 
 -- the fields of some instances, with one more before them
 every-placed : (a : ℕ) (c : Component) (next : BitPlace) (i : Instance) (fs : List FieldAt) → every_access a (with_placed (placement c next i) fs) ≡ (has_in a c && every_access a fs)
@@ -149,7 +133,7 @@ module _ (text t : List ℕ) (row a : ℕ) {to i : ℕ} (s : Asking text t row a
     pub asking_next : not r ≡ false → Asking text t row a to (i + 1)
     asking_next y = record { each = λ e ready low. left_next e ready low y }
 
--- ---- a register has a field, and no field is both only read and only written: so no register is both read-only and write_only_lem
+-- ---- a register has a field, and no field is both only read and only written: so no register is both read-only and write-only
 
 one_access : (n : ℕ) (x y : Bool) → ((eqb n (access_code access.R) && x) && (eqb n (access_code access.W) && y)) ≡ false
 one_access n x y = by (eqb n (access_code access.R)) refl (eqb n (access_code access.W)) refl x
@@ -165,13 +149,13 @@ one_access n x y = by (eqb n (access_code access.R)) refl (eqb n (access_code ac
         absurd (omega arith)
 
 module _ (x y : Bool) where
-  component_once : (c : Component) → may_hold (Inside kind.Reg) (kind_of c) ≡ true
+  component_once : (c : Component) → may_hold (Some kind.Reg) (kind_of c) ≡ true
       → ((has_in (access_code access.R) c && x) && (has_in (access_code access.W) c && y)) ≡ false
   unfolding may_hold
   component_once (component.Field f) h = one_access f.sw x y
-  component_once (component.Register r) h = absurd (let z : ◌≡◌ {A = ℕ} 0 1 = cc in omega arith)
-  component_once (component.Regfile a) h = absurd (let z : ◌≡◌ {A = ℕ} 0 1 = cc in omega arith)
-  component_once (component.Addrmap a m) h = absurd (let z : ◌≡◌ {A = ℕ} 0 1 = cc in omega arith)
+  component_once (component.Register r) h = absurd cc
+  component_once (component.Regfile a) h = absurd cc
+  component_once (component.Addrmap a m) h = absurd cc
 
 body_once : (table before : List Definition) (r : Register) (cs : List Child)
     → ((k : ℕ) → k < length before → definition_of before k ≡ definition_of table k)

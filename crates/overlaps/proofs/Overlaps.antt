@@ -8,8 +8,6 @@ use native.Mathlib.Omega.{arith}
 use lib.ListN.{length, take, drop, drop_of_length-le}
 use lib.Seq.{take-suc, drop-cons}
 use Rattle.std.specs.Prelude.{if◌then◌else◌}
-use Rattle.basics.specs.declared.Fault.{Fault}
-use Rattle.basics.specs.declared.Fault.TheVariants.{None, Refused}
 use Rattle.orders.specs.Unique.{meets, first_from, first_meeting}
 use Rattle.orders.proofs.Unique.{meets_here, meets_next, meets_none, first_here, first_next, first_none}
 use Rattle.cells.specs.Definitions.{Definition}
@@ -17,6 +15,7 @@ use Rattle.layout.specs.declared.Shape.{Shape}
 use Rattle.map_rules.specs.Visits.{Visit}
 use Rattle.map_rules.specs.Whole.{is_register_visit, overlap_registers, overlaps_one, overlapping, registers_among}
 use Rattle.map_walk.specs.Walks.{visit_at, no_visit}
+use Rattle.basics.specs.Judged.{Verdict, Accepted, Refused}
 
 -- the registers among some elements, with one more before them or behind them
 module _ (table : List Definition) (u : Visit) (us : List Visit) where
@@ -112,7 +111,7 @@ module _ (table : List Definition) (shapes : List Shape) (earlier : List Visit) 
   unfolding overlapping
   next_other y = ap (λ (b : Bool). if (b && overlaps_one table shapes v earlier) then Refused 21 v.name.start else overlapping table shapes (earlier ++ (v ∷ [])) vs) y
 
-next_none : (table : List Definition) (shapes : List Shape) (earlier : List Visit) → overlapping table shapes earlier [] ≡ None
+next_none : (table : List Definition) (shapes : List Shape) (earlier : List Visit) → overlapping table shapes earlier [] ≡ Accepted
 unfolding overlapping
 next_none table shapes earlier = refl
 
@@ -131,7 +130,7 @@ overlapping_among table shapes earlier (v ∷ vs) = by (is_register_visit table 
         h ∙ ap (λ (l : List Visit). overlapping table shapes l rest) (more_register table earlier v y) in
         next_register table shapes earlier v vs y
         ∙ ap (λ (b : Bool). if b then Refused 21 v.name.start else overlapping table shapes (earlier ++ (v ∷ [])) vs) (one_among table shapes v earlier)
-        ∙ ap (λ (f : Fault). if overlaps_one table shapes v before then Refused 21 v.name.start else f) k
+        ∙ ap (λ (f : Verdict). if overlaps_one table shapes v before then Refused 21 v.name.start else f) k
         ∙ sym (next_register table shapes before v rest y)
         ∙ ap (overlapping table shapes before) (sym (among_register table v vs y))
     by false y h =
@@ -144,7 +143,7 @@ registers_decide table shapes vs = overlapping_among table shapes [] vs ∙ ap (
 
 -- registers from the i-th on
 module _ (table : List Definition) (shapes : List Shape) (vs : List Visit) (i : ℕ) where
-  from_end : length vs ≤ i → overlapping table shapes (take i vs) (drop i vs) ≡ None
+  from_end : length vs ≤ i → overlapping table shapes (take i vs) (drop i vs) ≡ Accepted
   from_end h = ap (overlapping table shapes (take i vs)) (drop_of_length-le vs h) ∙ next_none table shapes (take i vs)
 
   module _ (h : i < length vs) (y : is_register_visit table (visit_at vs i) ≡ true) where
@@ -152,7 +151,7 @@ module _ (table : List Definition) (shapes : List Shape) (vs : List Visit) (i : 
         ≡ (if overlaps_one table shapes (visit_at vs i) (take i vs) then Refused 21 (visit_at vs i).name.start else overlapping table shapes (take (i + 1) vs) (drop (i + 1) vs))
     from_here =
         let v : Visit = visit_at vs i in
-        let f : Fault = Refused 21 v.name.start in
+        let f : Verdict = Refused 21 v.name.start in
         let b : Bool = overlaps_one table shapes v (take i vs) in
         ap (overlapping table shapes (take i vs)) (drop-cons vs i no_visit h) ∙ next_register table shapes (take i vs) v (drop (suc i) vs) y
         ∙ ap (λ (l : List Visit). if b then f else overlapping table shapes l (drop (suc i) vs)) (sym (take-suc vs i no_visit h))
@@ -169,8 +168,8 @@ module _ (table : List Definition) (shapes : List Shape) (vs : List Visit) (i : 
 -- ---- the first register that meets an earlier one
 
 -- 21 where the r-th register is the first that meets an earlier one; none where it is behind them all
-pub record FaultOf (vs : List Visit) (r : ℕ) (f : Fault) : Type 0 where
-  pub none : length vs ≤ r → f ≡ None
+pub record FaultOf (vs : List Visit) (r : ℕ) (f : Verdict) : Type 0 where
+  pub none : length vs ≤ r → f ≡ Accepted
   pub refused : r < length vs → f ≡ Refused 21 (visit_at vs r).name.start
 
 -- `same` says of two registers whether they overlap
@@ -204,7 +203,7 @@ module _ (table : List Definition) (shapes : List Shape) (vs : List Visit) {same
       by false e f = z ∙ last_not table shapes v u (take k vs) y (pair e) ∙ f ∙ sym (meets_next same j k e)
 
   -- 21 of the registers from the i-th on
-  abbrev fault : ℕ → Fault
+  abbrev fault : ℕ → Verdict
   fault i = overlapping table shapes (take i vs) (drop i vs)
 
   fault_from : (count i : ℕ) → i + count ≡ length vs → FaultOf vs (first_from same i count) (fault i)

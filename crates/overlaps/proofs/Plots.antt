@@ -9,8 +9,6 @@ use lib.Dec.{ltb}
 use lib.ListN.{length, get_or, set}
 use lib.Seq.{get_or-set_same, get_or-set_other}
 use Rattle.basics.specs.Limits.{definition_limit, nest_limit, register_limit, address_end}
-use Rattle.basics.specs.declared.Fault.{Fault}
-use Rattle.basics.specs.declared.Fault.TheVariants.{None, Refused}
 use Rattle.basics.specs.Slices.{cell_of}
 use Rattle.fields.specs.Codes.{access_code}
 use Rattle.fields.specs.declared.AccessRight.TheVariants as access
@@ -27,7 +25,7 @@ use Rattle.sizes.specs.Ready.{known}
 use Rattle.sizes.specs.Shapes.{shape_in, all_shapes}
 use Rattle.map_rules.specs.Visits.{Visit}
 use Rattle.map_rules.specs.Whole.{has_access, is_pair, is_shared_lawfully, overlap_registers, overlapping}
-use Rattle.register_log.specs.Log.{log_width, address_bound, depth_bound, place_bound, head_address, head_row, head_depth, step_start}
+use Rattle.register_log.specs.Log.{log_width, address_bound, depth_bound, head_address, head_row, head_depth, step_start}
 use Rattle.register_log.proofs.Laws.{head_address_lem, head_row_lem, head_depth_lem}
 use Rattle.capped.specs.Offsets.{cut}
 use Rattle.map_walk.specs.Runs.{step_numbers}
@@ -40,28 +38,7 @@ use Rattle.overlaps.proofs.Access.{register_once}
 use Rattle.overlaps.proofs.Visits.{padded_cell, seen_length, seen_place, register_size, register_whole, RegisterSeen, registers_seen}
 use Rattle.overlaps.proofs.Overlaps.{registers_decide, FaultOf, Agrees, first_fault}
 use Rattle.overlaps.proofs.Sweeps.{Lined}
-
--- a register of the log, from its cells
-same_plot : {a b c x y z : ℕ} → a ≡ x → b ≡ y → c ≡ z → ◌≡◌ {A = Plot} (record { row = a; address = record { 0 = b }; size = c }) (record { row = x; address = record { 0 = y }; size = z })
-same_plot p q r = rw (p, q, r)
-
-pub plot_read : (s log : List ℕ) (i : ℕ) {head address row : ℕ} {shape : Shape} → head ≡ cell_of log (i * log_width) → address ≡ head_address head → (row ≡ head_row head) × (row < definition_limit)
-    → shape ≡ shape_in s row → record { row = row; address = record { 0 = address }; size = shape.size } ≡ plot_in s log i
-unfolding plot_in
-plot_read s log i p q r g =
-    let w : _ ≡ head_row (cell_of log (i * log_width)) = r.0 ∙ ap head_row p in
-    same_plot w (q ∙ ap head_address p) (ap (λ (z : Shape). z.size) g ∙ ap (λ (n : ℕ). (shape_in s n).size) w)
-
-pub place_read : (log : List ℕ) (i : ℕ) {head depth step place : ℕ} → head ≡ cell_of log (i * log_width) → (depth ≡ head_depth head) × (depth < depth_bound)
-    → step ≡ cell_of log (i * log_width + depth) → (place ≡ step_start step) × (place < place_bound) → place ≡ last_place log i
-unfolding last_place
-place_read log i p q r g = g.0 ∙ ap step_start (r ∙ ap (λ (n : ℕ). cell_of log (i * log_width + n)) (q.0 ∙ ap head_depth p))
-
-pub stretch_read : (table : List Definition) (s log : List ℕ) (i : ℕ) {p : Plot} {wa ra : ℕ} {w r : Bool} → p ≡ plot_in s log i
-    → wa ≡ access_code access.W → w ≡ has_access table wa p.row → ra ≡ access_code access.R → r ≡ has_access table ra p.row
-    → record { start = p.address.0; end = p.address.0 + p.size; readable = not w; writable = not r } ≡ stretch_in table s log i
-unfolding stretch_in
-stretch_read table s log i f a g b h = rw (g, a, h, b, f)
+use Rattle.basics.specs.Judged.{Verdict, Accepted, Refused}
 
 -- the accesses of a type's fields
 abbrev read_only : List Definition → ℕ → Bool
@@ -146,7 +123,7 @@ module _ (text t s log : List ℕ) (e : Extent) (row : ℕ) (c : Charted text t 
   start_low : start_in log i ≤ address_end
   start_low = omega (arith, logged_address, seen_at.sited.within)
 
-  -- it is not both read-only and write_only_lem
+  -- it is not both read-only and write-only
   once : (read_only (known text t e) visit.type && write_only (known text t e) visit.type) ≡ false
   once = register_once text t e visit.type c.shaped.ready type_low seen_at.type.known_as
 
@@ -163,7 +140,7 @@ module _ (text t s log : List ℕ) (e : Extent) (row : ℕ) (c : Charted text t 
 
 -- ---- the stretches of two registers clash where the registers overlap
 
--- two registers neither of which is both read-only and write_only_lem are both readable, or both writable, or lawfully shared
+-- two registers neither of which is both read-only and write-only are both readable, or both writable, or lawfully shared
 sides_lawful : (ri wi rj wj : Bool) → (ri && wi) ≡ false → (rj && wj) ≡ false
     → ((not wi && not wj) || (not ri && not rj)) ≡ not ((rj && wi) || (ri && wj))
 sides_lawful true true rj wj a b = absurd (let z : ◌≡◌ {A = ℕ} 0 1 = cc in omega arith)
@@ -208,7 +185,7 @@ module _ (text t s log : List ℕ) (e : Extent) (c : Charted text t s log e e.ma
   agrees = record { registers = λ i h. (seen_at text t s log e e.map c i h).register; pairs = clash-overlaps }
 
   -- 21 of the map is that of the first register whose stretch clashes with an earlier one
-  abbrev fault : Fault
+  abbrev fault : Verdict
   fault = overlapping (known text t e) (all_shapes text t e) [] (elements_of text t e e.map)
 
   map_fault_lem : FaultOf registers (first_meeting (clash_in text t s log e) (register_count text t e)) fault
@@ -222,7 +199,7 @@ module _ (text t s log : List ℕ) (e : Extent) (c : Charted text t s log e e.ma
       found_fault : FaultOf registers first fault
       found_fault = rw f map_fault_lem
 
-      pub found_none : first ≡ count → None ≡ fault
+      pub found_none : first ≡ count → Accepted ≡ fault
       found_none z = sym (found_fault.none (omega (arith, n)))
 
       module _ (z : first ≡ count → ⊥) where
@@ -260,9 +237,9 @@ filling_on log {i} {xs} {head} {x} f h d g =
           ];
     }
 
-pub filling_end : (log : List ℕ) {i : ℕ} {xs : List ℕ} {n : ℕ} → Filling log i xs → length xs ≤ i → length xs ≡ n → n ≤ register_limit
+pub filling_end : (log : List ℕ) {i : ℕ} {xs : List ℕ} {n : ℕ} → Filling log i xs → length xs ≡ n → n ≤ i → n ≤ register_limit
     → Keyed (start_in log) register_limit xs
-filling_end log f h e l = record { room = omega arith; each = λ j o. f.each j (omega arith) }
+filling_end log f e h l = record { room = omega arith; each = λ j o. f.each j (omega arith) }
 
 -- a key fits its cell
 module _ (log : List ℕ) {i m n head x : ℕ} (f : LowStarts log n) (k : m ≡ n) (h : i < m) (l : n ≤ register_limit) (d : head ≡ cell_of log (i * log_width)) (g : x ≡ head_address head) where

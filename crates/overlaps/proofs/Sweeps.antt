@@ -1,13 +1,13 @@
 -- Laws of a pass over registers in the order of their addresses, over any stretches.
-use mathlib.Core.Bool.{Bool, true, false, ◌||◌, ◌&&◌, not}
+use mathlib.Core.Bool.{Bool, true, false, ◌||◌, ◌&&◌}
 use mathlib.Core.Path.{◌≡◌, refl, sym, ap, ap₂, ◌∙◌}
 use mathlib.Core.List.{List}
-use Prim.Native.Nat.{ℕ, ◌+◌, ◌<◌, ◌≤◌}
+use Prim.Native.Nat.{ℕ, max, ◌+◌, ◌<◌, ◌≤◌}
 use native.Mathlib.Omega.{arith}
 use native.Mathlib.Decide.{dec_lt}
 use lib.Dec.{ltb}
 use lib.ListN.{length}
-use borrow.Author.Tests.{lt-ltb, le-ltb, ltb-true, ltb-false, not-true, not-false}
+use borrow.Author.Tests.{lt-ltb, le-ltb, ltb-true, ltb-false}
 use Rattle.std.specs.Prelude.{if◌then◌else◌}
 use Rattle.basics.specs.Limits.{register_limit}
 use Rattle.chars.proofs.Laws.{differ, and_false}
@@ -80,36 +80,6 @@ module _ (side : Side) (b : Bool) (end number : ℕ) where
       by false e y z = f e
       by true e true z = h e (ltb-true side.end end z)
       by true e false z = g e (ltb-false side.end end z)
-
-  pub side_left : not b ≡ true → side ≡ side_of side b end number
-  side_left z = side_by (λ r. side ≡ r) (λ f. refl) (λ f l. refl) (λ f l. differ (sym f ∙ not-true b z))
-
-  pub side_new : not b ≡ false → side.end < end → record { end = end; who = number } ≡ side_of side b end number
-  side_new z h =
-      side_by (λ r. record { end = end; who = number } ≡ r)
-      (λ f. differ (sym (not-false b z) ∙ f))
-      (λ f l. absurd (omega arith))
-      (λ f l. refl)
-
-  pub side_old : not b ≡ false → end ≤ side.end → side ≡ side_of side b end number
-  side_old z h = side_by (λ r. side ≡ r) (λ f. refl) (λ f l. refl) (λ f l. absurd (omega arith))
-
-module _ (side : Side) (b : Bool) (start : ℕ) where
-  pub reaches_not : not b ≡ true → Reaches side b start false
-  reaches_not z =
-      record {
-        free = λ x f. differ (sym f ∙ not-true b z);
-        over = λ x. differ (sym x);
-        counts = λ x. differ (sym x);
-      }
-
-  pub reaches_by : not b ≡ false → Reaches side b start (ltb start side.end)
-  reaches_by z =
-      record {
-        free = λ x f. ltb-false start side.end x;
-        over = λ x. ltb-true start side.end x;
-        counts = λ x. not-false b z;
-      }
 
 -- ---- what is kept of the registers passed
 
@@ -303,24 +273,22 @@ module _ (at : ℕ → Stretch) (order : List ℕ) (limit : ℕ) {i : ℕ} {read
 
 -- ---- where the pass is stopped, two registers overlap
 
--- the later of two registers
-abbrev LaterOf : ℕ → ℕ → ℕ → Type 0
-LaterOf a b r = (a ≤ b → r ≡ b) × (b ≤ a → r ≡ a)
-
-later_meets : (at : ℕ → Stretch) {limit a b r : ℕ} → clash at a b ≡ true → (a ≡ b → ⊥) → a < limit → b < limit → LaterOf a b r
+later_meets : (at : ℕ → Stretch) {limit a b r : ℕ} → clash at a b ≡ true → (a ≡ b → ⊥) → a < limit → b < limit → r ≡ max a b
     → SomeMeeting (clash at) limit r
-later_meets at {limit} {a} {b} c n l m f =
+later_meets at {limit} {a} {b} {r} c n l m f =
     elim (dec_lt a b) [
       | yes y ↦
-          rw (f.0 (omega arith))
+          let q : r ≡ b = omega arith in
+          rw q
           record { within = omega arith; clear = λ v. absurd (omega arith); hit = λ v. meets_pair (clash at) b b a y c }
       | no y ↦
-          let q : b < a = elim (dec_lt b a) [ yes q ↦ q | no q ↦ absurd (n (omega arith)) ] in
-          rw (f.1 (omega arith))
+          let z : b < a = elim (dec_lt b a) [ yes z ↦ z | no z ↦ absurd (n (omega arith)) ] in
+          let q : r ≡ a = omega arith in
+          rw q
           record {
             within = omega arith;
             clear = λ v. absurd (omega arith);
-            hit = λ v. meets_pair (clash at) a a b q (clash_turned at b a ∙ c);
+            hit = λ v. meets_pair (clash at) a a b z (clash_turned at b a ∙ c);
           }
     ]
 
@@ -353,17 +321,17 @@ module _ (at : ℕ → Stretch) (belongs : Stretch → Bool)
     other : side.who ≡ number_at order i → ⊥
     other y = let k = holding in items_differ o.ordered k.place i k.passed h (k.number ∙ y)
 
-    stops : {g : ℕ} → number_at order i < limit → LaterOf side.who (number_at order i) g → SomeMeeting (clash at) limit g
+    stops : {g : ℕ} → number_at order i < limit → g ≡ max side.who (number_at order i) → SomeMeeting (clash at) limit g
     stops m f = later_meets at stopped other holding.low m f
 
 module _ (at : ℕ → Stretch) {n : ℕ} {order : List ℕ} (o : Lined at n order) {limit i g : ℕ} {readable writable : Side}
     (w : Passing at order limit i readable writable) (h : i < length order) (m : number_at order i < limit) {stretch : Stretch}
     (e : stretch ≡ at (number_at order i)) {x : Bool}
   where
-    pub reader_stops : Reaches readable stretch.readable stretch.start x → x ≡ true → LaterOf readable.who (number_at order i) g
+    pub reader_stops : Reaches readable stretch.readable stretch.start x → x ≡ true → g ≡ max readable.who (number_at order i)
         → SomeMeeting (clash at) limit g
     reader_stops r z f = stops at can_read (clash_read at) o w.read h e r z m f
 
-    pub writer_stops : Reaches writable stretch.writable stretch.start x → x ≡ true → LaterOf writable.who (number_at order i) g
+    pub writer_stops : Reaches writable stretch.writable stretch.start x → x ≡ true → g ≡ max writable.who (number_at order i)
         → SomeMeeting (clash at) limit g
     writer_stops r z f = stops at can_write (clash_write at) o w.write h e r z m f

@@ -8,17 +8,14 @@ use native.Mathlib.Omega.{arith}
 use lib.Dec.{eqb, ltb}
 use lib.ListN.{length, get_or, get_or-map}
 use borrow.Author.Tests.{eqb-true, ltb-false, not-false}
-use Rattle.std.specs.Prelude.{if◌then◌else◌}
+use Rattle.std.specs.Prelude.{if◌then◌else◌, Option, None}
 use Rattle.chars.proofs.Laws.{either, or_left, or_right}
 use Rattle.parts.specs.declared.Name.{Name}
 use Rattle.parts.specs.declared.Array.{Array}
 use Rattle.parts.specs.declared.Array.TheVariants as array
 use Rattle.parts.proofs.InstanceName.{instance_short}
 use Rattle.fields.specs.Codes.{is_width}
-use Rattle.basics.specs.Judged.{first_of}
-use Rattle.basics.specs.declared.Fault.TheVariants.{None}
-use Rattle.basics.specs.declared.Given.{Given}
-use Rattle.basics.specs.declared.Given.TheVariants.{Nothing}
+use Rattle.basics.specs.Judged.{first_of, Accepted}
 use Rattle.fields.specs.declared.Register.{Register}
 use Rattle.components.specs.declared.Component.{Component}
 use Rattle.components.specs.declared.Component.TheVariants as component
@@ -58,18 +55,18 @@ use Rattle.map_walk.specs.Walks.{elements_of, registers_of, survey_fault}
 -- an instance in the body of a row, and the cell that holds it
 pub record BodyCell (text t : List ℕ) (e : Extent) (c : Child) : Type 0 where
   pub row : ℕ
-  pub alignment : Given
+  pub alignment : Option ℕ
   pub low : row < e.rows
   pub fits : ReadyChild text t e row alignment c
   pub cell : ℕ
   pub entry : IsEntry text (cell_of t cell) c
 
-held_by_lem : (text t : List ℕ) (e : Extent) (row : ℕ) (a : Given) {i : ℕ} {cs : List Child} → row < e.rows → Block text t i cs → ReadyChildren text t e row a cs → All (BodyCell text t e) cs
+held_by_lem : (text t : List ℕ) (e : Extent) (row : ℕ) (a : Option ℕ) {i : ℕ} {cs : List Child} → row < e.rows → Block text t i cs → ReadyChildren text t e row a cs → All (BodyCell text t e) cs
 held_by_lem text t e row a low block_end ready_none = all_none
 held_by_lem text t e row a low (block_on {i = i} x b) (ready_more r rs) =
     all_more (record { row = row; alignment = a; low = low; fits = r; cell = i; entry = x }) (held_by_lem text t e row a low b rs)
 
-pub held_all : (text t : List ℕ) (e : Extent) (row : ℕ) (a : Given) → Ready text t e → row < e.rows → GroupOf (definition_of (known text t e) row).component a
+pub held_all : (text t : List ℕ) (e : Extent) (row : ℕ) (a : Option ℕ) → Ready text t e → row < e.rows → GroupOf (definition_of (known text t e) row).component a
     → All (BodyCell text t e) (definition_of (known text t e) row).instances
 held_all text t e row a ready low g =
     let k : component_in t row ≡ (definition_of (known text t e) row).component = (ready_is_row text t e row ready low).component in
@@ -127,7 +124,7 @@ step_fits {text} {t} {e} s o =
 
 -- a step in the cells of a path
 abbrev pub no_step : PathStep
-no_step = record { name = record { start = 0; end = 0 }; index = Nothing }
+no_step = record { name = record { start = 0; end = 0 }; index = None }
 
 abbrev pub step_at : List PathStep → ℕ → PathStep
 step_at path j = get_or path j no_step
@@ -165,7 +162,7 @@ module _ (text t : List ℕ) (e : Extent) (depth : ℕ) (v : Visit) (s : Seen e.
       ap step_start (step_cell v.path j) ∙ step_start_lem p.name.start p.name.end (index_code p.index) f.start ∙ ap (λ (n : Name). n.start) seen_last
 
 -- 18, 19 and 20 are kept
-pub few_levels : (table : List Definition) (registers fields : ℕ) (vs : List Visit) → too_many table registers fields vs ≡ None → All (λ (v : Visit). length v.path ≤ 8) vs
+pub few_levels : (table : List Definition) (registers fields : ℕ) (vs : List Visit) → too_many table registers fields vs ≡ Accepted → All (λ (v : Visit). length v.path ≤ 8) vs
 unfolding too_many
 few_levels table registers fields [] f = all_none
 few_levels table registers fields (v ∷ vs) f =
@@ -176,7 +173,7 @@ few_levels table registers fields (v ∷ vs) f =
     let d : ltb 8 (length v.path) ≡ false = or_left (ltb nest_limit (length v.path)) (ltb register_limit r || ltb field_limit k) (pass_test 18 p (too_many table r k vs) b f) in
     all_more (ltb-false 8 (length v.path) d) (few_levels table r k vs (pass_on 18 p (too_many table r k vs) b f))
 
-pub none_short : (vs : List Visit) → too_close vs ≡ None → All (λ (v : Visit). v.short ≡ false) vs
+pub none_short : (vs : List Visit) → too_close vs ≡ Accepted → All (λ (v : Visit). v.short ≡ false) vs
 unfolding too_close
 none_short [] f = all_none
 none_short (v ∷ vs) f = all_more (pass_test 19 v.name.start (too_close vs) v.short f) (none_short vs (pass_on 19 v.name.start (too_close vs) v.short f))
@@ -197,7 +194,7 @@ sited_by shapes v true f y =
     }
 sited_by shapes v false f y = absurd (let z : ◌≡◌ {A = ℕ} 0 1 = cc in omega arith)
 
-pub all_sited : (table : List Definition) (shapes : List Shape) (vs : List Visit) → misplaced table shapes vs ≡ None → All (λ (v : Visit). is_register_visit table v ≡ true → Sited shapes v) vs
+pub all_sited : (table : List Definition) (shapes : List Shape) (vs : List Visit) → misplaced table shapes vs ≡ Accepted → All (λ (v : Visit). is_register_visit table v ≡ true → Sited shapes v) vs
 unfolding misplaced
 all_sited table shapes [] f = all_none
 all_sited table shapes (v ∷ vs) f =
@@ -278,14 +275,14 @@ pub record RegisterSeen (text t : List ℕ) (e : Extent) (v : Visit) : Type 0 wh
   pub sited : Sited (all_shapes text t e) v
   pub exact : cut v.address.0 ≡ v.address.0
 
-pub registers_seen : (text t : List ℕ) (e : Extent) (row : ℕ) → Ready text t e → row < e.rows → survey_fault (known text t e) (all_shapes text t e) (elements_of text t e row) ≡ None
+pub registers_seen : (text t : List ℕ) (e : Extent) (row : ℕ) → Ready text t e → row < e.rows → survey_fault (known text t e) (all_shapes text t e) (elements_of text t e row) ≡ Accepted
     → All (RegisterSeen text t e) (registers_of text t e row)
 registers_seen text t e row ready low f =
     let table : List Definition = known text t e in
     let shapes : List Shape = all_shapes text t e in
     let vs : List Visit = elements_of text t e row in
-    let a : too_many table 0 0 vs ≡ None = first_sound (too_many table 0 0 vs) (first_of (too_close vs) (misplaced table shapes vs)) f in
-    let b : misplaced table shapes vs ≡ None = later_sound (too_close vs) (misplaced table shapes vs) (later_sound (too_many table 0 0 vs) (first_of (too_close vs) (misplaced table shapes vs)) f) in
+    let a : too_many table 0 0 vs ≡ Accepted = first_sound (too_many table 0 0 vs) (first_of (too_close vs) (misplaced table shapes vs)) f in
+    let b : misplaced table shapes vs ≡ Accepted = later_sound (too_close vs) (misplaced table shapes vs) (later_sound (too_many table 0 0 vs) (first_of (too_close vs) (misplaced table shapes vs)) f) in
     all_map
     (λ v p.
     let s : Sited shapes v = p.0.1.1 p.1 in

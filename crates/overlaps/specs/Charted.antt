@@ -1,6 +1,5 @@
 -- What the pass for 21 is asked for: a map that breaks neither 18 nor 19 nor 20, and its registers in the log.
 use Rattle.std.specs.Prelude.{◌≡◌, Bool, true, List, ℕ, ◌+◌, ◌*◌, ◌<◌, ◌≤◌, eqb, length}
-use Rattle.basics.specs.declared.Fault.TheVariants.{None}
 use Rattle.components.specs.declared.Component.{Component}
 use Rattle.components.specs.declared.Component.TheVariants as component
 use Rattle.basics.specs.Slices.{cell_of}
@@ -11,13 +10,14 @@ use Rattle.sizes.specs.Shapes.{shape_in, all_shapes}
 use Rattle.register_log.specs.Log.{log_width, head_address, head_row, head_depth, step_start}
 use Rattle.map_walk.specs.Walks.{Shaped, Logs, elements_of, registers_of, survey_fault}
 use Rattle.overlaps.specs.declared.Plot.{Plot}
+use Rattle.basics.specs.Judged.{Accepted}
 
 pub record Charted (text t s log : List ℕ) (e : Extent) (row : ℕ) : Type 0 where
   pub shaped : Shaped text t s e
   pub low : row < e.rows
   pub logs : Logs log (registers_of text t e row)
   pub few : length (registers_of text t e row) ≤ register_limit
-  pub sound : survey_fault (known text t e) (all_shapes text t e) (elements_of text t e row) ≡ None
+  pub sound : survey_fault (known text t e) (all_shapes text t e) (elements_of text t e row) ≡ Accepted
 
 -- whether a field has this access; what is no field has each
 abbrev pub has_in : ℕ → Component → Bool

@@ -2,6 +2,7 @@
 #![tactic(auto)]
 
 ghost use Rattle.std.specs.Prelude.{◌≡◌, true, [], ◌<◌, ◌≤◌, length};
+ghost use Rattle.basics.specs.Judged.{verdict};
 ghost use Rattle.basics.specs.Limits.{register_limit};
 ghost use Rattle.orders.specs.Keys.{Keyed};
 ghost use Rattle.orders.specs.Unique.{meets, first_meeting, SomeMeeting};
@@ -12,7 +13,7 @@ ghost use Rattle.map_walk.specs.Walks.{elements_of, registers_of};
 ghost use Rattle.overlaps.specs.Charted.{Charted, has_in, plot_in, last_place};
 ghost use Rattle.overlaps.specs.Sweeps.{register_count, start_in, stretch_in, clash_in, LowStarts, Sweepable, side_of, Reaches};
 
-use basics::Fault;
+use basics::{Refusal, Rule};
 use components::Component;
 use fields::{AccessRight, Offset};
 use orders::Bounds;
@@ -26,7 +27,7 @@ pub struct Plot {
     pub size: u64,
 }
 
-// A register's bytes, up to the one behind its last; and its access: it counts as readable unless every field is write_only_lem, and as
+// A register's bytes, up to the one behind its last; and its access: it counts as readable unless every field is write-only, and as
 // writable unless every field is read-only. Two registers may share a byte unless both count as readable or both as writable.
 #[derive(Clone, Copy)]
 pub struct Stretch {
@@ -49,9 +50,7 @@ fn is_access(component: Component, access: u64) -> bool
 {
     match component {
         Component::Field(field) => field.sw == access,
-        Component::Register(_) => true,
-        Component::Regfile(_) => true,
-        Component::Addrmap(_, _) => true,
+        _ => true,
     }
 }
 
@@ -61,19 +60,18 @@ fn has_access(text: &[u8], cells: &[u64], extent: Extent, row: usize, access: u6
     ensures { result ≡ has_access (known text.now cells.now extent) access row }
 {
     let span = cells::instances_of(cells, row);
-    let mut i = span.from;
-    while i < span.to {
+    for i in span.from..span.to {
         let entry = basics::cell(cells, i);
         let component = cells::component_at(cells, cells::row_in(entry));
         if !is_access(component, access) {
             return false;
         }
-        i += 1;
     }
     true
 }
 
 // A register of the log.
+#[tactic(auto, unfolding(crate::specs::Charted::plot_in))]
 fn plot_at(shapes: &[u64], log: &[u64], i: usize) -> Plot
     requires { i ≤ register_limit }
     ensures { result ≡ plot_in shapes.now log.now i }
@@ -81,15 +79,15 @@ fn plot_at(shapes: &[u64], log: &[u64], i: usize) -> Plot
     let head = basics::cell(log, i * register_log::LOG_WIDTH);
     let address = Offset(register_log::head_address(head));
     let row = register_log::head_row(head);
-    let shape = sizes::shape_at(shapes, row);
     Plot {
         row,
         address,
-        size: shape.size,
+        size: sizes::shape_at(shapes, row).size,
     }
 }
 
 // Where the name of a register of the log stands: that of its path's last step.
+#[tactic(auto, unfolding(crate::specs::Charted::last_place))]
 fn place_at(log: &[u64], i: usize) -> usize
     requires { i ≤ register_limit }
     ensures { result ≡ last_place log.now i }
@@ -100,6 +98,7 @@ fn place_at(log: &[u64], i: usize) -> usize
 }
 
 // The bytes and the access of a register of the log.
+#[tactic(auto, unfolding(crate::specs::Sweeps::stretch_in))]
 fn stretch_at(
     text: &[u8],
     cells: &[u64],
@@ -112,20 +111,10 @@ fn stretch_at(
     ensures { result ≡ stretch_in (known text.now cells.now extent) shapes.now log.now i }
 {
     let plot = plot_at(shapes, log, i);
-    let write_only = has_access(
-        text,
-        cells,
-        extent,
-        plot.row,
-        fields::access_code(AccessRight::W),
-    );
-    let read_only = has_access(
-        text,
-        cells,
-        extent,
-        plot.row,
-        fields::access_code(AccessRight::R),
-    );
+    let writer = fields::access_code(AccessRight::W);
+    let reader = fields::access_code(AccessRight::R);
+    let write_only = has_access(text, cells, extent, plot.row, writer);
+    let read_only = has_access(text, cells, extent, plot.row, reader);
     Stretch {
         start: plot.address.0,
         end: plot.address.0 + plot.size,
@@ -134,36 +123,23 @@ fn stretch_at(
     }
 }
 
-fn later_of(a: usize, b: usize) -> usize
-    ensures { (a ≤ b → result ≡ b) × (b ≤ a → result ≡ a) }
-{
-    if a < b {
-        return b;
-    }
-    a
-}
-
 // A side with one register more, if it belongs to that side.
+#[tactic(auto, unfolding(crate::specs::Sweeps::side_of))]
 fn side_after(side: Side, belongs: bool, end: u64, number: usize) -> Side
     ensures { result ≡ side_of side belongs end number }
 {
-    if !belongs {
-        return side;
+    if belongs && side.end < end {
+        Side { end, who: number }
+    } else {
+        side
     }
-    if side.end < end {
-        return Side { end, who: number };
-    }
-    side
 }
 
 // Whether a side reaches into a register that belongs to it.
 fn reaches(side: Side, belongs: bool, start: u64) -> bool
     ensures { Reaches side belongs start result }
 {
-    if !belongs {
-        return false;
-    }
-    start < side.end
+    belongs && start < side.end
 }
 
 // A pass in the order of the addresses over the registers whose number is below a limit: one that overlaps an earlier one, or the limit
@@ -182,19 +158,17 @@ fn pass(
 {
     let mut readable = Side { end: 0, who: 0 };
     let mut writable = Side { end: 0, who: 0 };
-    let mut i = 0;
-    while i < order.len() {
-        let number = order[i] as usize % basics::REGISTER_LIMIT;
-        i += 1;
+    for &key in order {
+        let number = key as usize % basics::REGISTER_LIMIT;
         if limit <= number {
             continue;
         }
         let stretch = stretch_at(text, cells, shapes, log, extent, number);
         if reaches(readable, stretch.readable, stretch.start) {
-            return later_of(readable.who, number);
+            return readable.who.max(number);
         }
         if reaches(writable, stretch.writable, stretch.start) {
-            return later_of(writable.who, number);
+            return writable.who.max(number);
         }
         readable = side_after(readable, stretch.readable, stretch.end, number);
         writable = side_after(writable, stretch.writable, stretch.end, number);
@@ -249,15 +223,14 @@ fn put_keys(log: &[u64], keys: &mut [u64])
     requires { (length keys.old ≤ register_limit) × LowStarts log.now (length keys.old) }
     ensures { Keyed (start_in log.now) register_limit keys.new }
 {
-    let mut i = 0;
-    while i < keys.len() {
+    for i in 0..keys.len() {
         let address = register_log::head_address(basics::cell(log, i * register_log::LOG_WIDTH));
         keys[i] = address * basics::REGISTER_LIMIT as u64 + i as u64;
-        i += 1;
     }
 }
 
 // The first register that overlaps an earlier one, with room for the keys; how many registers there are where none does.
+#[tactic(auto, using(crate::proofs::Plots::few_keys, crate::proofs::Plots::low_starts, crate::proofs::Plots::sweepable))]
 fn first_with_room(
     text: &[u8],
     cells: &[u64],
@@ -283,14 +256,14 @@ pub fn first_overlap(
     log: &[u64],
     extent: Extent,
     count: usize,
-) -> Fault
+) -> Result<(), Refusal>
     requires { Charted text.now cells.now shapes.now log.now extent extent.map × (count ≡ length (registers_of text.now cells.now extent extent.map)) }
-    ensures { result ≡ overlapping (known text.now cells.now extent) (all_shapes text.now cells.now extent) [] (elements_of text.now cells.now extent extent.map) }
+    ensures { verdict result ≡ overlapping (known text.now cells.now extent) (all_shapes text.now cells.now extent) [] (elements_of text.now cells.now extent extent.map) }
 {
     let mut keys = [0u64; basics::REGISTER_LIMIT];
     let first = first_with_room(text, cells, shapes, log, extent, &mut keys[0..count]);
     if first == count {
-        return Fault::None;
+        return Ok(());
     }
-    Fault::Refused(21, place_at(log, first))
+    Err(Rule::RegistersOverlap.at(place_at(log, first)))
 }

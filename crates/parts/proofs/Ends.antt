@@ -25,11 +25,8 @@ use Rattle.parts.specs.declared.SuffixKind.TheVariants.{Reset, Address, Stride, 
 use Rattle.parts.specs.declared.Instance.{Instance}
 use Rattle.parts.specs.declared.Value.{Value}
 use Rattle.parts.specs.declared.Value.TheVariants as value
-use Rattle.parts.specs.declared.ValueLookup.{ValueLookup}
-use Rattle.parts.specs.declared.ValueLookup.TheVariants.{IsValue, NoValue}
 use Rattle.parts.specs.declared.Kind.{Kind}
-use Rattle.parts.specs.declared.KindLookup.{KindLookup}
-use Rattle.parts.specs.declared.KindLookup.TheVariants.{IsKind, NoKind}
+use Rattle.std.specs.Prelude.{Option, Some, None}
 
 module _ (t : List ℕ) where
   pub mark_past : (m : Mark) (at : ℕ) → is_mark m (token_at t at).word ≡ true → (suc at ≤ (token_at t at).end) × ((token_at t at).end ≤ length t)
@@ -93,9 +90,9 @@ module _ (t : List ℕ) where
   unfolding listed_at
   listed_ends at = ends_then (instance_ends at) (λ i n l h. ends_after (omega arith) (parted_ends i n))
 
-  value_in_past : (at : ℕ) (w : Word) (p : ℕ) {v : Value} → value_in w p ≡ IsValue v → w ≡ word.End → ⊥
+  value_in_past : (at : ℕ) (w : Word) (p : ℕ) {v : Value} → value_in w p ≡ Some v → w ≡ word.End → ⊥
   value_in_past at w p e z =
-      let f : NoValue ≡ IsValue _ = rw z at e in
+      let f : None ≡ Some _ = rw z at e in
       let o : ◌≡◌ {A = ℕ} 0 1 = cc in
       omega arith
 
@@ -103,9 +100,9 @@ module _ (t : List ℕ) where
   unfolding value_at
   value_ends at = by (value_in (token_at t at).word (token_at t at).start) refl
     where
-      by : (x : ValueLookup) → value_in (token_at t at).word (token_at t at).start ≡ x → Ends (suc at) (length t) (value_or x (token_at t at).end (mapped value.Number (number_at t at)))
-      by (IsValue v) e = ends_ok (token_inside t at (value_in_past at (token_at t at).word (token_at t at).start e))
-      by NoValue e = ends_mapped _ (number_ends t at)
+      by : (x : Option Value) → value_in (token_at t at).word (token_at t at).start ≡ x → Ends (suc at) (length t) (value_or x (token_at t at).end (mapped value.Number (number_at t at)))
+      by (Some v) e = ends_ok (token_inside t at (value_in_past at (token_at t at).word (token_at t at).start e))
+      by None e = ends_mapped _ (number_ends t at)
 
   setting_ends : (d : Bool) (w : Token) (at : ℕ) → Ends (suc at) (length t) (setting_at d w t at)
   unfolding setting_at
@@ -141,12 +138,12 @@ module _ (t : List ℕ) where
   unfolding header_at kind_of
   header_ends at = by (kind_of (token_at t at).word) refl
     where
-      none : {c : Kind} → kind_of (token_at t at).word ≡ IsKind c → (token_at t at).word ≡ word.End → ⊥
+      none : {c : Kind} → kind_of (token_at t at).word ≡ Some c → (token_at t at).word ≡ word.End → ⊥
       none {c} e z =
-          let f : NoKind ≡ IsKind c = rw z at e in
+          let f : None ≡ Some c = rw z at e in
           let o : ◌≡◌ {A = ℕ} 0 1 = cc in
           omega arith
 
-      by : (x : KindLookup) → kind_of (token_at t at).word ≡ x → Ends (suc at) (length t) (header_of x (token_at t at) t)
-      by (IsKind c) e = ends_after (omega (arith, token_inside t at (none e))) (header_rest_ends c (token_at t at).start (token_at t at).end)
-      by NoKind e = ends_stop
+      by : (x : Option Kind) → kind_of (token_at t at).word ≡ x → Ends (suc at) (length t) (header_of x (token_at t at) t)
+      by (Some c) e = ends_after (omega (arith, token_inside t at (none e))) (header_rest_ends c (token_at t at).start (token_at t at).end)
+      by None e = ends_stop

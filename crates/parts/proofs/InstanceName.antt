@@ -5,7 +5,7 @@ use mathlib.Core.List.{List}
 use Prim.Native.Nat.{ℕ, ◌+◌, ◌≤◌}
 use native.Mathlib.Omega.{arith}
 use lib.ListN.{length}
-use Rattle.std.specs.Prelude.{if◌then◌else◌}
+use Rattle.std.specs.Prelude.{if◌then◌else◌, Option}
 use Rattle.basics.specs.Limits.{name_limit}
 use Rattle.lex.specs.Token.{token_at}
 use Rattle.lex.specs.declared.Word.{Word}
@@ -17,10 +17,10 @@ use Rattle.parts.specs.Reading.{Parsed, ok, stop, and_then, mapped}
 use Rattle.parts.specs.Words.{is_name}
 use Rattle.parts.specs.Parts.{name_at, array_at, suffix_at, bare, set_suffix, with_suffix, bare_at, instance_at}
 use Rattle.parts.specs.declared.Name.{Name}
-use Rattle.parts.specs.declared.Suffix.{Suffix}
 use Rattle.parts.specs.declared.SuffixKind.{SuffixKind}
 use Rattle.parts.specs.declared.SuffixKind.TheVariants.{Reset, Address, Stride, Alignment}
 use Rattle.parts.specs.declared.Instance.{Instance}
+use Rattle.expressions.specs.declared.Number.{Number}
 
 -- a name that stands at the cursor
 pub record Begins (text : List ℕ) (at : ℕ) (name : Name) : Type 0 where
@@ -33,7 +33,7 @@ any : {A : Type 0} (p : Parsed A) → HoldsRead Any p
 any (ok a n) = holds_ok (record {})
 any (stop n p) = holds_stop
 
-same_name : (s : SuffixKind) (x : Suffix) (i : Instance) → (set_suffix s x i).name ≡ i.name
+same_name : (s : SuffixKind) (x : Option (ℕ × Number)) (i : Instance) → (set_suffix s x i).name ≡ i.name
 unfolding set_suffix
 same_name Reset x i = refl
 same_name Address x i = refl

@@ -6,49 +6,28 @@ use Prim.Native.Nat.{ℕ}
 use native.Mathlib.Omega.{arith}
 use Rattle.lex.specs.Token.{token_at}
 use Rattle.lex.specs.declared.Token.{Token}
-use Rattle.lex.specs.declared.Word.{Word}
 use Rattle.vocabulary.specs.declared.Mark.{Mark}
 use Rattle.vocabulary.specs.declared.Mark.TheVariants as mark
 use Rattle.expressions.specs.Grammar.{number_at}
-use Rattle.expressions.specs.Answers.{number_read}
 use Rattle.parts.specs.Reading.{Parsed, ok, stop, and_then, mapped}
 use Rattle.parts.specs.Words.{is_name, kind_of, is_default, is_property, is_mark}
-use Rattle.parts.specs.Parts.{closed_by, name_at, array_rest_at, array_at, suffix_mark, suffix_at, instance_of, bare, set_suffix, with_suffix, bare_at, spacing_at, suffixed_at, instance_at, parted_at, listed_at, value_in, value_at, property, setting_at, property_word_at, property_at, header_rest_at, header_at, starts_instances}
+use Rattle.parts.specs.Parts.{closed_by, name_at, array_rest_at, array_at, suffix_mark, suffix_at, instance_of, bare, set_suffix, with_suffix, bare_at, spacing_at, suffixed_at, instance_at, parted_at, listed_at, value_in, value_at, property, setting_at, property_word_at, property_at, header_rest_at, header_at}
 use Rattle.parts.specs.Ahead.{ahead_at, Stands, Looked, found, refused, looked, placed, starts_spacing, starts_suffix, PartedBy}
-use Rattle.parts.specs.Answers.{name_read, array_read, suffix_read, instance_ahead_read, value_read}
 use Rattle.expressions.specs.declared.Number.{Number}
-use Rattle.expressions.specs.declared.NumberReading.{NumberReading}
 use Rattle.parts.specs.declared.Name.{Name}
-use Rattle.parts.specs.declared.NameReading.{NameReading}
 use Rattle.parts.specs.declared.Ahead.{Ahead}
 use Rattle.parts.specs.declared.Array.{Array}
-use Rattle.parts.specs.declared.ArrayReading.{ArrayReading}
-use Rattle.parts.specs.declared.Suffix.{Suffix}
-use Rattle.parts.specs.declared.SuffixReading.{SuffixReading}
 use Rattle.parts.specs.declared.Instance.{Instance}
-use Rattle.parts.specs.declared.InstanceAheadReading.{InstanceAheadReading}
 use Rattle.parts.specs.declared.ListItem.{ListItem}
 use Rattle.parts.specs.declared.Value.{Value}
-use Rattle.parts.specs.declared.ValueReading.{ValueReading}
 use Rattle.parts.specs.declared.Assignment.{Assignment}
 use Rattle.parts.specs.declared.Header.{Header}
-use Rattle.parts.specs.declared.NameReading.TheVariants as name_reading
-use Rattle.expressions.specs.declared.NumberReading.TheVariants as number_reading
-use Rattle.parts.specs.declared.ArrayReading.TheVariants as array_reading
-use Rattle.parts.specs.declared.SuffixReading.TheVariants as suffix_reading
-use Rattle.parts.specs.declared.InstanceAheadReading.TheVariants as instance_ahead_reading
-use Rattle.parts.specs.declared.ValueReading.TheVariants as value_reading
 use Rattle.parts.specs.declared.Array.TheVariants as array
-use Rattle.parts.specs.declared.Suffix.TheVariants as suffix
 use Rattle.parts.specs.declared.SuffixKind.{SuffixKind}
 use Rattle.parts.specs.declared.SuffixKind.TheVariants.{Reset, Address, Stride, Alignment}
 use Rattle.parts.specs.declared.Value.TheVariants as value
-use Rattle.parts.specs.declared.ValueLookup.{ValueLookup}
-use Rattle.parts.specs.declared.ValueLookup.TheVariants.{IsValue, NoValue}
 use Rattle.parts.specs.declared.Kind.{Kind}
-use Rattle.parts.specs.declared.KindLookup.{KindLookup}
-use Rattle.parts.specs.declared.KindLookup.TheVariants.{IsKind, NoKind}
-use Rattle.parts.specs.declared.DefinedName.TheVariants.{Unnamed, Named}
+use Rattle.std.specs.Prelude.{Option, Some, None}
 
 -- a reading by `p`, then by `k`
 module _ {A B : Type 0} {p : Parsed A} (k : A → ℕ → Parsed B) where
@@ -139,28 +118,28 @@ module _ (t : List ℕ) (at : ℕ) {k : Token} (e : k ≡ token_at t at) where
         unfolding array_rest_at looked
         range_no i = rw (← e, sym f ∙ g, sym h ∙ i)
 
-        module _ {x : NumberReading} (i : s ≡ true) (j : number_read x ≡ number_at t k.end) where
-          pub range_stop : {m q : ℕ} → x ≡ number_reading.Refused m q → refused m q ≡ looked t (array_rest_at p left t at)
+        module _ {x : Parsed Number} (i : s ≡ true) (j : x ≡ number_at t k.end) where
+          pub range_stop : {m q : ℕ} → x ≡ stop m q → refused m q ≡ looked t (array_rest_at p left t at)
           unfolding array_rest_at
           range_stop l = rw (← e, sym f ∙ g, sym h ∙ i) (looked_stop t (then_stop _ (rw l at j)))
 
-          pub range_close : {right : Number} {n : ℕ} {y : Looked Array} → x ≡ number_reading.Done right n
+          pub range_close : {right : Number} {n : ℕ} {y : Looked Array} → x ≡ ok right n
               → y ≡ looked t (closed_by mark.CloseBracket (array.Range p left right) t n) → y ≡ looked t (array_rest_at p left t at)
           unfolding array_rest_at
           range_close l m = rw (← e, sym f ∙ g, sym h ∙ i) (looked_then t _ (rw l at j) m)
 
   -- a value
-  module _ {l : ValueLookup} (f : l ≡ value_in k.word k.start) where
-    pub value_word : {v : Value} → l ≡ IsValue v → ok v k.end ≡ value_at t at
+  module _ {l : Option Value} (f : l ≡ value_in k.word k.start) where
+    pub value_word : {v : Value} → l ≡ Some v → ok v k.end ≡ value_at t at
     unfolding value_at
     value_word g = rw (← e, sym f ∙ g)
 
-    module _ {x : NumberReading} (g : l ≡ NoValue) (j : number_read x ≡ number_at t at) where
-      pub value-number : {number : Number} {n : ℕ} → x ≡ number_reading.Done number n → ok (value.Number number) n ≡ value_at t at
+    module _ {x : Parsed Number} (g : l ≡ None) (j : x ≡ number_at t at) where
+      pub value-number : {number : Number} {n : ℕ} → x ≡ ok number n → ok (value.Number number) n ≡ value_at t at
       unfolding value_at
       value-number h = rw (← e, sym f ∙ g) (mapped_ok _ (rw h at j))
 
-      pub value_stop : {m q : ℕ} → x ≡ number_reading.Refused m q → stop m q ≡ value_at t at
+      pub value_stop : {m q : ℕ} → x ≡ stop m q → stop m q ≡ value_at t at
       unfolding value_at
       value_stop h = rw (← e, sym f ∙ g) (mapped_stop _ (rw h at j))
 
@@ -175,12 +154,12 @@ module _ (t : List ℕ) (at : ℕ) {k : Token} (e : k ≡ token_at t at) where
       unfolding setting_at
       setting_no i = rw (← e, sym f ∙ g, sym h ∙ i)
 
-      module _ {x : ValueReading} (i : s ≡ true) (j : value_read x ≡ value_at t k.end) where
-        pub setting_stop : {m q : ℕ} → x ≡ value_reading.Refused m q → stop m q ≡ setting_at d w t at
+      module _ {x : Parsed Value} (i : s ≡ true) (j : x ≡ value_at t k.end) where
+        pub setting_stop : {m q : ℕ} → x ≡ stop m q → stop m q ≡ setting_at d w t at
         unfolding setting_at
         setting_stop l = rw (← e, sym f ∙ g, sym h ∙ i) (then_stop _ (rw l at j))
 
-        pub setting_close : {v : Value} {n : ℕ} {z : Assignment} {y : Parsed Assignment} → x ≡ value_reading.Done v n → z ≡ property d w v
+        pub setting_close : {v : Value} {n : ℕ} {z : Assignment} {y : Parsed Assignment} → x ≡ ok v n → z ≡ property d w v
             → y ≡ closed_by mark.Semicolon z t n → y ≡ setting_at d w t at
         unfolding setting_at
         setting_close l m o = rw (← e, sym f ∙ g, sym h ∙ i) ((rw m at o) ∙ then_ok _ (rw l at j))
@@ -206,7 +185,7 @@ module _ (t : List ℕ) (at : ℕ) {k : Token} (e : k ≡ token_at t at) where
 
   -- a definition's head
   module _ (c : Kind) (p : ℕ) {r : Bool} (f : r ≡ is_mark mark.OpenBrace k.word) where
-    pub header_unnamed : r ≡ true → ok (record { kind = c; place = p; name = Unnamed; brace = k.start }) k.end ≡ header_rest_at c p t at
+    pub header_unnamed : r ≡ true → ok (record { kind = c; place = p; name = None; brace = k.start }) k.end ≡ header_rest_at c p t at
     unfolding header_rest_at
     header_unnamed g = rw (← e, sym f ∙ g)
 
@@ -216,7 +195,7 @@ module _ (t : List ℕ) (at : ℕ) {k : Token} (e : k ≡ token_at t at) where
       header_no i = rw (← e, sym f ∙ g, sym h ∙ i)
 
       module _ {b : Token} {s : Bool} (i : n ≡ true) (j : b ≡ token_at t k.end) (l : s ≡ is_mark mark.OpenBrace b.word) where
-        pub header_named : s ≡ true → ok (record { kind = c; place = p; name = Named (record { start = k.start; end = k.end }); brace = b.start }) b.end ≡ header_rest_at c p t at
+        pub header_named : s ≡ true → ok (record { kind = c; place = p; name = Some (record { start = k.start; end = k.end }); brace = b.start }) b.end ≡ header_rest_at c p t at
         unfolding header_rest_at
         header_named m = rw (← e, sym f ∙ g, sym h ∙ i, ← j, sym l ∙ m)
 
@@ -224,24 +203,14 @@ module _ (t : List ℕ) (at : ℕ) {k : Token} (e : k ≡ token_at t at) where
         unfolding header_rest_at
         header_braceless m = rw (← e, sym f ∙ g, sym h ∙ i, ← j, sym l ∙ m)
 
-  module _ {l : KindLookup} (f : l ≡ kind_of k.word) where
-    pub header_kind : {c : Kind} {y : Parsed Header} → l ≡ IsKind c → y ≡ header_rest_at c k.start t k.end → y ≡ header_at t at
+  module _ {l : Option Kind} (f : l ≡ kind_of k.word) where
+    pub header_kind : {c : Kind} {y : Parsed Header} → l ≡ Some c → y ≡ header_rest_at c k.start t k.end → y ≡ header_at t at
     unfolding header_at
     header_kind g h = rw (← e, sym f ∙ g) h
 
-    pub header_other : l ≡ NoKind → stop 3 k.start ≡ header_at t at
+    pub header_other : l ≡ None → stop 3 k.start ≡ header_at t at
     unfolding header_at
     header_other g = rw (← e, sym f ∙ g)
-
-  -- two names
-  module _ {r : Bool} (f : r ≡ is_name k.word) where
-    pub starts_no : r ≡ false → false ≡ starts_instances t at
-    unfolding starts_instances
-    starts_no g = rw (← e, sym f ∙ g)
-
-    pub starts_by : {b : Token} {s : Bool} → r ≡ true → b ≡ token_at t k.end → s ≡ is_name b.word → s ≡ starts_instances t at
-    unfolding starts_instances
-    starts_by g h i = rw (← e, sym f ∙ g, ← h) i
 
 -- an instance of a list, by the token behind it
 module _ (i : Instance) (k : Token) {r : Bool} (f : r ≡ is_mark mark.Semicolon k.word) where
@@ -274,29 +243,29 @@ module _ (t : List ℕ) (b : Ahead) (e : Stands t b) where
     unfolding array_at
     array_none g = rw (← stands_token, sym f ∙ g) (still array.Missing)
 
-    module _ {x : NumberReading} (g : r ≡ true) (j : number_read x ≡ number_at t b.token.end) where
-      pub array_stop : {m q : ℕ} → x ≡ number_reading.Refused m q → refused m q ≡ looked t (array_at t b.at)
+    module _ {x : Parsed Number} (g : r ≡ true) (j : x ≡ number_at t b.token.end) where
+      pub array_stop : {m q : ℕ} → x ≡ stop m q → refused m q ≡ looked t (array_at t b.at)
       unfolding array_at
       array_stop l = rw (← stands_token, sym f ∙ g) (looked_stop t (then_stop _ (rw l at j)))
 
-      pub array_rest : {left : Number} {n : ℕ} {y : Looked Array} → x ≡ number_reading.Done left n
+      pub array_rest : {left : Number} {n : ℕ} {y : Looked Array} → x ≡ ok left n
           → y ≡ looked t (array_rest_at b.token.start left t n) → y ≡ looked t (array_at t b.at)
       unfolding array_at
       array_rest l m = rw (← stands_token, sym f ∙ g) (looked_then t _ (rw l at j) m)
 
   -- an optional suffix
   module _ (s : SuffixKind) {m : Mark} {r : Bool} (d : m ≡ suffix_mark s) (f : r ≡ is_mark m b.token.word) where
-    pub suffix_none : r ≡ false → found suffix.Missing b ≡ looked t (suffix_at s t b.at)
+    pub suffix_none : r ≡ false → found None b ≡ looked t (suffix_at s t b.at)
     unfolding suffix_at
-    suffix_none g = rw (← stands_token, ← d, sym f ∙ g) (still suffix.Missing)
+    suffix_none g = rw (← stands_token, ← d, sym f ∙ g) (still None)
 
-    module _ {x : NumberReading} (g : r ≡ true) (j : number_read x ≡ number_at t b.token.end) where
-      pub suffix_stop : {m q : ℕ} → x ≡ number_reading.Refused m q → refused m q ≡ looked t (suffix_at s t b.at)
+    module _ {x : Parsed Number} (g : r ≡ true) (j : x ≡ number_at t b.token.end) where
+      pub suffix_stop : {m q : ℕ} → x ≡ stop m q → refused m q ≡ looked t (suffix_at s t b.at)
       unfolding suffix_at
       suffix_stop l = rw (← stands_token, ← d, sym f ∙ g) (looked_stop t (mapped_stop _ (rw l at j)))
 
-      pub suffix_given : {number : Number} {n : ℕ} {c : Ahead} → x ≡ number_reading.Done number n → c ≡ ahead_at t n
-          → found (suffix.Given b.token.start number) c ≡ looked t (suffix_at s t b.at)
+      pub suffix_given : {number : Number} {n : ℕ} {c : Ahead} → x ≡ ok number n → c ≡ ahead_at t n
+          → found (Some (b.token.start, number)) c ≡ looked t (suffix_at s t b.at)
       unfolding suffix_at
       suffix_given l h = rw (h, ← stands_token, ← d, sym f ∙ g) (looked_ok t (mapped_ok _ (rw l at j)))
 
@@ -310,38 +279,13 @@ module _ (t : List ℕ) where
   unfolding Stands ahead_at
   look_stands at e = rw e
 
-  pub array_stands : (at : ℕ) {x : ArrayReading} {a : Array} {b : Ahead} → array_read x ≡ looked t (array_at t at)
-      → x ≡ array_reading.Done a b → Stands t b
+  pub array_stands : (at : ℕ) {x : Looked Array} {a : Array} {b : Ahead} → x ≡ looked t (array_at t at)
+      → x ≡ found a b → Stands t b
   array_stands at e f = (found_at t (array_at t at) (rw f at e)).1
 
-  pub suffix_stands : (s : SuffixKind) (at : ℕ) {x : SuffixReading} {a : Suffix} {b : Ahead} → suffix_read x ≡ looked t (suffix_at s t at)
-      → x ≡ suffix_reading.Done a b → Stands t b
+  pub suffix_stands : (s : SuffixKind) (at : ℕ) {x : Looked (Option (ℕ × Number))} {a : Option (ℕ × Number)} {b : Ahead} → x ≡ looked t (suffix_at s t at)
+      → x ≡ found a b → Stands t b
   suffix_stands s at e f = (found_at t (suffix_at s t at) (rw f at e)).1
-
--- whether a stride or an alignment follows
-module _ (w : Word) {a : Bool} (e : a ≡ is_mark mark.PlusEquals w) where
-  pub spacing_stride : a ≡ true → true ≡ starts_spacing w
-  unfolding starts_spacing
-  spacing_stride f = rw (sym e ∙ f)
-
-  pub spacing_alignment : {b : Bool} → a ≡ false → b ≡ is_mark mark.PercentEquals w → b ≡ starts_spacing w
-  unfolding starts_spacing
-  spacing_alignment f g = rw (sym e ∙ f) g
-
--- whether any suffix follows
-module _ (w : Word) {a : Bool} (e : a ≡ is_mark mark.Equals w) where
-  pub starts_reset : a ≡ true → true ≡ starts_suffix w
-  unfolding starts_suffix
-  starts_reset f = rw (sym e ∙ f)
-
-  module _ (f : a ≡ false) {b : Bool} (g : b ≡ is_mark mark.At w) where
-    pub starts_address : b ≡ true → true ≡ starts_suffix w
-    unfolding starts_suffix
-    starts_address h = rw (sym e ∙ f, sym g ∙ h)
-
-    pub starts_spaced : {c : Bool} → b ≡ false → c ≡ starts_spacing w → c ≡ starts_suffix w
-    unfolding starts_suffix
-    starts_spaced h i = rw (sym e ∙ f, sym g ∙ h) i
 
 neither : (a b : Bool) → (a || b) ≡ false → (a ≡ false) × (b ≡ false)
 neither false false e = (refl, refl)
@@ -350,36 +294,36 @@ neither true b e = absurd (let z : ◌≡◌ {A = ℕ} 0 1 = cc in omega arith)
 
 -- the suffixes of an instance, one behind another
 module _ (t : List ℕ) (m : Name) (a : Array) (at : ℕ) where
-  module _ {x : SuffixReading} (e : suffix_read x ≡ looked t (suffix_at Reset t at)) where
-    pub reset_stop : {n q : ℕ} → x ≡ suffix_reading.Refused n q → refused n q ≡ looked t (suffixed_at t (ok (bare m a) at))
+  module _ {x : Looked (Option (ℕ × Number))} (e : x ≡ looked t (suffix_at Reset t at)) where
+    pub reset_stop : {n q : ℕ} → x ≡ refused n q → refused n q ≡ looked t (suffixed_at t (ok (bare m a) at))
     unfolding with_suffix and_then mapped looked
     reset_stop f = rw (← refused_at_lem t (suffix_at Reset t at) (rw f at e))
 
-    module _ {r : Suffix} {first : Ahead} {y : SuffixReading} (f : x ≡ suffix_reading.Done r first)
-        (g : suffix_read y ≡ looked t (suffix_at Address t first.at)) where
-      pub address_stop : {n q : ℕ} → y ≡ suffix_reading.Refused n q → refused n q ≡ looked t (suffixed_at t (ok (bare m a) at))
+    module _ {r : Option (ℕ × Number)} {first : Ahead} {y : Looked (Option (ℕ × Number))} (f : x ≡ found r first)
+        (g : y ≡ looked t (suffix_at Address t first.at)) where
+      pub address_stop : {n q : ℕ} → y ≡ refused n q → refused n q ≡ looked t (suffixed_at t (ok (bare m a) at))
       unfolding with_suffix and_then mapped looked
       address_stop h = rw (← (found_at t (suffix_at Reset t at) (rw f at e)).0, ← refused_at_lem t (suffix_at Address t first.at) (rw h at g))
 
-      pub address_done : {d : Suffix} {second : Ahead} {z : Looked Instance} → y ≡ suffix_reading.Done d second
+      pub address_done : {d : Option (ℕ × Number)} {second : Ahead} {z : Looked Instance} → y ≡ found d second
           → z ≡ looked t (spacing_at t (ok (placed m a r d) second.at)) → z ≡ looked t (suffixed_at t (ok (bare m a) at))
       unfolding with_suffix and_then mapped set_suffix
       address_done h i =
           rw (← (found_at t (suffix_at Reset t at) (rw f at e)).0, ← (found_at t (suffix_at Address t first.at) (rw h at g)).0) i
 
-  module _ (r d : Suffix) {x : SuffixReading} (e : suffix_read x ≡ looked t (suffix_at Stride t at)) where
-    pub stride_stop : {n q : ℕ} → x ≡ suffix_reading.Refused n q → refused n q ≡ looked t (spacing_at t (ok (placed m a r d) at))
+  module _ (r d : Option (ℕ × Number)) {x : Looked (Option (ℕ × Number))} (e : x ≡ looked t (suffix_at Stride t at)) where
+    pub stride_stop : {n q : ℕ} → x ≡ refused n q → refused n q ≡ looked t (spacing_at t (ok (placed m a r d) at))
     unfolding with_suffix and_then mapped looked
     stride_stop f = rw (← refused_at_lem t (suffix_at Stride t at) (rw f at e))
 
-    module _ {s : Suffix} {first : Ahead} {y : SuffixReading} (f : x ≡ suffix_reading.Done s first)
-        (g : suffix_read y ≡ looked t (suffix_at Alignment t first.at)) where
-      pub alignment_stop : {n q : ℕ} → y ≡ suffix_reading.Refused n q → refused n q ≡ looked t (spacing_at t (ok (placed m a r d) at))
+    module _ {s : Option (ℕ × Number)} {first : Ahead} {y : Looked (Option (ℕ × Number))} (f : x ≡ found s first)
+        (g : y ≡ looked t (suffix_at Alignment t first.at)) where
+      pub alignment_stop : {n q : ℕ} → y ≡ refused n q → refused n q ≡ looked t (spacing_at t (ok (placed m a r d) at))
       unfolding with_suffix and_then mapped looked
       alignment_stop h =
           rw (← (found_at t (suffix_at Stride t at) (rw f at e)).0, ← refused_at_lem t (suffix_at Alignment t first.at) (rw h at g))
 
-      pub alignment_done : {l : Suffix} {last : Ahead} {w : Instance} → y ≡ suffix_reading.Done l last → w ≡ instance_of m a r d s l
+      pub alignment_done : {l : Option (ℕ × Number)} {last : Ahead} {w : Instance} → y ≡ found l last → w ≡ instance_of m a r d s l
           → found w last ≡ looked t (spacing_at t (ok (placed m a r d) at))
       unfolding with_suffix and_then mapped set_suffix
       alignment_done {l = l} {last = last} h i =
@@ -388,7 +332,7 @@ module _ (t : List ℕ) (m : Name) (a : Array) (at : ℕ) where
 
 -- where the token ahead begins none, nothing is read
 module _ (t : List ℕ) (m : Name) (a : Array) (b : Ahead) (e : Stands t b) where
-  pub spacing_none : (r d : Suffix) {s : Bool} {i : Instance} → s ≡ starts_spacing b.token.word → s ≡ false → i ≡ placed m a r d
+  pub spacing_none : (r d : Option (ℕ × Number)) {s : Bool} {i : Instance} → s ≡ starts_spacing b.token.word → s ≡ false → i ≡ placed m a r d
       → found i b ≡ looked t (spacing_at t (ok (placed m a r d) b.at))
   unfolding starts_spacing with_suffix suffix_at set_suffix and_then mapped
   spacing_none r d f g h =
@@ -408,38 +352,38 @@ module _ (t : List ℕ) (m : Name) (a : Array) (b : Ahead) (e : Stands t b) wher
 
 -- a reading that becomes part of a larger one
 module _ (t : List ℕ) where
-  module _ (m : Name) (at : ℕ) {b : Ahead} {x : ArrayReading} (e : b ≡ ahead_at t at) (f : array_read x ≡ looked t (array_at t b.at)) where
-    pub named_stop : {n q : ℕ} → x ≡ array_reading.Refused n q → refused n q ≡ looked t (suffixed_at t (mapped (bare m) (array_at t at)))
+  module _ (m : Name) (at : ℕ) {b : Ahead} {x : Looked Array} (e : b ≡ ahead_at t at) (f : x ≡ looked t (array_at t b.at)) where
+    pub named_stop : {n q : ℕ} → x ≡ refused n q → refused n q ≡ looked t (suffixed_at t (mapped (bare m) (array_at t at)))
     unfolding with_suffix and_then mapped looked ahead_at
     named_stop g = rw (← refused_at_lem t (array_at t at) (rw (e, g) at f))
 
-    pub named_done : {a : Array} {c : Ahead} {y : Looked Instance} → x ≡ array_reading.Done a c
+    pub named_done : {a : Array} {c : Ahead} {y : Looked Instance} → x ≡ found a c
         → y ≡ looked t (suffixed_at t (ok (bare m a) c.at)) → y ≡ looked t (suffixed_at t (mapped (bare m) (array_at t at)))
     unfolding mapped ahead_at
     named_done g h = rw (← (found_at t (array_at t at) (rw (e, g) at f)).0) h
 
-  module _ (at : ℕ) {x : NameReading} (e : name_read x ≡ name_at t at) where
-    pub name_stop : {q : ℕ} → x ≡ name_reading.Refused q → refused 3 q ≡ looked t (instance_at t at)
+  module _ (at : ℕ) {x : Parsed Name} (e : x ≡ name_at t at) where
+    pub name_stop : {n q : ℕ} → x ≡ stop n q → refused n q ≡ looked t (instance_at t at)
     unfolding instance_at bare_at with_suffix and_then looked
     name_stop f = rw (← e, f)
 
-    pub name_done : {m : Name} {n : ℕ} {y : Looked Instance} → x ≡ name_reading.Done m n
+    pub name_done : {m : Name} {n : ℕ} {y : Looked Instance} → x ≡ ok m n
         → y ≡ looked t (suffixed_at t (mapped (bare m) (array_at t n))) → y ≡ looked t (instance_at t at)
     unfolding instance_at bare_at and_then
     name_done f g = rw (← e, f) g
 
-  module _ (at : ℕ) {x : InstanceAheadReading} (e : instance_ahead_read x ≡ looked t (instance_at t at)) where
-    pub instance_stop : {n q : ℕ} → x ≡ instance_ahead_reading.Refused n q → stop n q ≡ instance_at t at
+  module _ (at : ℕ) {x : Looked Instance} (e : x ≡ looked t (instance_at t at)) where
+    pub instance_stop : {n q : ℕ} → x ≡ refused n q → stop n q ≡ instance_at t at
     instance_stop f = refused_at_lem t (instance_at t at) (rw f at e)
 
-    pub instance_done : {i : Instance} {b : Ahead} → x ≡ instance_ahead_reading.Done i b → ok i b.at ≡ instance_at t at
+    pub instance_done : {i : Instance} {b : Ahead} → x ≡ found i b → ok i b.at ≡ instance_at t at
     instance_done f = (found_at t (instance_at t at) (rw f at e)).0
 
-    pub listed_stop : {n q : ℕ} → x ≡ instance_ahead_reading.Refused n q → stop n q ≡ listed_at t at
+    pub listed_stop : {n q : ℕ} → x ≡ refused n q → stop n q ≡ listed_at t at
     unfolding listed_at
     listed_stop f = then_stop _ (instance_stop f)
 
-    pub listed_more : {i : Instance} {b : Ahead} {y : Parsed ListItem} → x ≡ instance_ahead_reading.Done i b → PartedBy i b.token y
+    pub listed_more : {i : Instance} {b : Ahead} {y : Parsed ListItem} → x ≡ found i b → PartedBy i b.token y
         → y ≡ listed_at t at
     unfolding listed_at
     listed_more {b = b} f g =

@@ -2,4 +2,3 @@ pub mod Reading
 pub mod Words
 pub mod Parts
 pub mod Ahead
-pub mod Answers

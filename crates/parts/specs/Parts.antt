@@ -1,5 +1,5 @@
 -- The parts of sentences (document 01, "Sentences"), each as a reader of the text at a cursor.
-use Rattle.std.specs.Prelude.{Bool, true, false, ◌&&◌, List, ℕ}
+use Rattle.std.specs.Prelude.{Bool, true, false, ◌&&◌, List, ℕ, Option, Some, None, is_some}
 use Rattle.std.specs.Prelude.{if◌then◌else◌}
 use Rattle.lex.specs.Token.{token_at}
 use Rattle.lex.specs.declared.Token.{Token}
@@ -14,22 +14,14 @@ use Rattle.expressions.specs.declared.Number.{Number}
 use Rattle.parts.specs.declared.Name.{Name}
 use Rattle.parts.specs.declared.Array.{Array}
 use Rattle.parts.specs.declared.Array.TheVariants as array
-use Rattle.parts.specs.declared.Suffix.{Suffix}
-use Rattle.parts.specs.declared.Suffix.TheVariants as suffix
 use Rattle.parts.specs.declared.SuffixKind.{SuffixKind}
 use Rattle.parts.specs.declared.SuffixKind.TheVariants.{Reset, Address, Stride, Alignment}
 use Rattle.parts.specs.declared.Instance.{Instance}
 use Rattle.parts.specs.declared.ListItem.{ListItem}
 use Rattle.parts.specs.declared.Value.{Value}
 use Rattle.parts.specs.declared.Value.TheVariants as value
-use Rattle.parts.specs.declared.ValueLookup.{ValueLookup}
-use Rattle.parts.specs.declared.ValueLookup.TheVariants.{IsValue, NoValue}
 use Rattle.parts.specs.declared.Assignment.{Assignment}
 use Rattle.parts.specs.declared.Kind.{Kind}
-use Rattle.parts.specs.declared.KindLookup.{KindLookup}
-use Rattle.parts.specs.declared.KindLookup.TheVariants.{IsKind, NoKind}
-use Rattle.parts.specs.declared.DefinedName.{DefinedName}
-use Rattle.parts.specs.declared.DefinedName.TheVariants.{Unnamed, Named}
 use Rattle.parts.specs.declared.Header.{Header}
 
 -- a mark that has to stand there, behind something that was read
@@ -64,21 +56,21 @@ suffix_mark Address = mark.At
 suffix_mark Stride = mark.PlusEquals
 suffix_mark Alignment = mark.PercentEquals
 
-unfoldable pub suffix_at : SuffixKind → List ℕ → ℕ → Parsed Suffix
+unfoldable pub suffix_at : SuffixKind → List ℕ → ℕ → Parsed (Option (ℕ × Number))
 suffix_at s text at =
     let k = token_at text at in
-    if is_mark (suffix_mark s) k.word then mapped (suffix.Given k.start) (number_at text k.end) else
-    ok suffix.Missing at
+    if is_mark (suffix_mark s) k.word then mapped (λ n. Some (k.start, n)) (number_at text k.end) else
+    ok None at
 
 -- an instance of its parts: name, array, reset, address, stride, alignment
-abbrev pub instance_of : Name → Array → Suffix → Suffix → Suffix → Suffix → Instance
+abbrev pub instance_of : Name → Array → Option (ℕ × Number) → Option (ℕ × Number) → Option (ℕ × Number) → Option (ℕ × Number) → Instance
 instance_of n a r d s l = record { name = n; array = a; reset = r; address = d; stride = s; alignment = l }
 
 -- an instance with no suffix yet
 abbrev pub bare : Name → Array → Instance
-bare n a = instance_of n a suffix.Missing suffix.Missing suffix.Missing suffix.Missing
+bare n a = instance_of n a None None None None
 
-unfoldable pub set_suffix : SuffixKind → Suffix → Instance → Instance
+unfoldable pub set_suffix : SuffixKind → Option (ℕ × Number) → Instance → Instance
 set_suffix Reset s i = instance_of i.name i.array s i.address i.stride i.alignment
 set_suffix Address s i = instance_of i.name i.array i.reset s i.stride i.alignment
 set_suffix Stride s i = instance_of i.name i.array i.reset i.address s i.alignment
@@ -115,18 +107,18 @@ unfoldable pub listed_at : List ℕ → ℕ → Parsed ListItem
 listed_at text at = and_then (instance_at text at) (λ i next. parted_at i text next)
 
 -- a string, `true`, `false` or a word of the lists
-abbrev pub value_in : Word → ℕ → ValueLookup
-value_in word.End p = NoValue
-value_in word.Name p = NoValue
-value_in (word.Keyword k) p = if role_value (role_of k) then IsValue (value.Word k p) else NoValue
-value_in (word.Number n) p = NoValue
-value_in word.String p = IsValue (value.String p)
-value_in (word.Mark m) p = NoValue
-value_in (word.Bad c) p = NoValue
+abbrev pub value_in : Word → ℕ → Option Value
+value_in word.End p = None
+value_in word.Name p = None
+value_in (word.Keyword k) p = if role_value (role_of k) then Some (value.Word k p) else None
+value_in (word.Number n) p = None
+value_in word.String p = Some (value.String p)
+value_in (word.Mark m) p = None
+value_in (word.Bad c) p = None
 
-abbrev pub value_or : ValueLookup → ℕ → Parsed Value → Parsed Value
-value_or (IsValue v) e number = ok v e
-value_or NoValue e number = number
+abbrev pub value_or : Option Value → ℕ → Parsed Value → Parsed Value
+value_or (Some v) e number = ok v e
+value_or None e number = number
 
 -- "A value is a number, string, `true`, `false`, or one word of the access, effect or addressing lists"
 unfoldable pub value_at : List ℕ → ℕ → Parsed Value
@@ -158,23 +150,22 @@ unfoldable pub header_rest_at : Kind → ℕ → List ℕ → ℕ → Parsed Hea
 header_rest_at c p text at =
     let k = token_at text at in
     let b = token_at text k.end in
-    if is_mark mark.OpenBrace k.word then ok (record { kind = c; place = p; name = Unnamed; brace = k.start }) k.end else
+    if is_mark mark.OpenBrace k.word then ok (record { kind = c; place = p; name = None; brace = k.start }) k.end else
     if is_name k.word then
-    (if is_mark mark.OpenBrace b.word then ok (record { kind = c; place = p; name = Named (record { start = k.start; end = k.end }); brace = b.start }) b.end else
+    (if is_mark mark.OpenBrace b.word then ok (record { kind = c; place = p; name = Some (record { start = k.start; end = k.end }); brace = b.start }) b.end else
     unexpected b) else
     unexpected k
 
-abbrev pub header_of : KindLookup → Token → List ℕ → Parsed Header
-header_of (IsKind c) k text = header_rest_at c k.start text k.end
-header_of NoKind k text = unexpected k
+abbrev pub header_of : Option Kind → Token → List ℕ → Parsed Header
+header_of (Some c) k text = header_rest_at c k.start text k.end
+header_of None k text = unexpected k
 
 -- "A definition is a kind word, an optional name, a body in braces": up to the opening brace
 unfoldable pub header_at : List ℕ → ℕ → Parsed Header
 header_at text at = let k = token_at text at in header_of (kind_of k.word) k text
 
-abbrev pub is_named : DefinedName → Bool
-is_named Unnamed = false
-is_named (Named n) = true
+abbrev pub is_named : Option Name → Bool
+is_named name = is_some name
 
 -- "instance statements (type name, instances, `;`)" begin with two names
 unfoldable pub starts_instances : List ℕ → ℕ → Bool

@@ -1,5 +1,5 @@
 -- What a word may be in a sentence (document 01, "Sentences").
-use Rattle.std.specs.Prelude.{Bool, true, false, ℕ, eqb}
+use Rattle.std.specs.Prelude.{Bool, true, false, ℕ, eqb, Option, Some, None, is_some}
 use Rattle.lex.specs.declared.Word.{Word}
 use Rattle.lex.specs.declared.Word.TheVariants as word
 use Rattle.vocabulary.specs.declared.Keyword.{Keyword}
@@ -9,8 +9,7 @@ use Rattle.vocabulary.specs.declared.Mark.TheVariants as mark
 use Rattle.parts.specs.declared.Kind.TheVariants.{Addrmap, Regfile, Reg, Field}
 use Rattle.parts.specs.declared.Role.{Role}
 use Rattle.parts.specs.declared.Role.TheVariants as role
-use Rattle.parts.specs.declared.KindLookup.{KindLookup}
-use Rattle.parts.specs.declared.KindLookup.TheVariants.{IsKind, NoKind}
+use Rattle.parts.specs.declared.Kind.{Kind}
 
 -- the part that each kept keyword may play: a kind word; `default`; a property (`sw`, `hw`); a property or a value (the four short
 -- forms); a value ("`true`, `false`, or one word of the access, effect or addressing lists")
@@ -43,12 +42,12 @@ role_of keyword.Compact = role.Value
 role_of keyword.Regalign = role.Value
 role_of keyword.Fullalign = role.Value
 
-abbrev pub role_kind : Role → KindLookup
-role_kind (role.Kind k) = IsKind k
-role_kind role.Default = NoKind
-role_kind role.Property = NoKind
-role_kind role.PropertyOrValue = NoKind
-role_kind role.Value = NoKind
+abbrev pub role_kind : Role → Option Kind
+role_kind (role.Kind k) = Some k
+role_kind role.Default = None
+role_kind role.Property = None
+role_kind role.PropertyOrValue = None
+role_kind role.Value = None
 
 abbrev pub role_default : Role → Bool
 role_default (role.Kind k) = false
@@ -86,15 +85,11 @@ unfoldable pub is_name : Word → Bool
 is_name = by_role (λ r. false) true false
 
 -- "kind word"
-unfoldable pub kind_of : Word → KindLookup
-kind_of = by_role role_kind NoKind NoKind
-
-abbrev pub is_found : KindLookup → Bool
-is_found (IsKind k) = true
-is_found NoKind = false
+unfoldable pub kind_of : Word → Option Kind
+kind_of = by_role role_kind None None
 
 unfoldable pub is_kind : Word → Bool
-is_kind w = is_found (kind_of w)
+is_kind w = is_some (kind_of w)
 
 unfoldable pub is_default : Word → Bool
 is_default = by_role role_default false false

@@ -3,18 +3,18 @@
 #![tactic(auto)]
 
 ghost use Rattle.std.specs.Prelude.{◌≡◌};
-ghost use Rattle.expressions.specs.Reading.{ok, mapped};
-ghost use Rattle.parts.specs.Words.{role_of, role_kind, role_default, role_property, role_value, is_name, kind_of, is_kind, is_default, is_property, mark_number, is_mark, is_end};
+ghost use Rattle.expressions.specs.Reading.{ok, mapped, parsed};
+ghost use Rattle.parts.specs.Words.{role_of, role_kind, role_default, role_property, role_value, is_name, kind_of, is_kind, is_default, is_property, is_mark, is_end};
 ghost use Rattle.parts.specs.Parts.{closed_by, name_at, array_rest_at, array_at, suffix_mark, suffix_at, instance_of, bare, spacing_at, suffixed_at, instance_at, listed_at, value_in, value_at, property, setting_at, property_word_at, property_at, header_rest_at, header_at, is_named, starts_instances};
-ghost use Rattle.parts.specs.Ahead.{ahead_at, Stands, looked, placed, starts_spacing, starts_suffix, PartedBy};
-ghost use Rattle.parts.specs.Answers.{name_read, array_read, suffix_read, instance_ahead_read, instance_read, listed_read, value_read, property_read, header_read};
+ghost use Rattle.parts.specs.Ahead.{ahead_at, Stands, looked, looked_as, placed, starts_spacing, starts_suffix, PartedBy};
 
-use expressions::{Number, NumberReading};
+use basics::{Refusal, Rule};
+use expressions::{Number, Reading};
 use lex::{Token, Word};
 use vocabulary::{Keyword, Mark};
 
 // The kinds of component.
-#[derive(Clone, Copy)]
+#[derive(Clone, Copy, PartialEq, Eq)]
 pub enum Kind {
     Addrmap,
     Regfile,
@@ -23,7 +23,7 @@ pub enum Kind {
 }
 
 // What a kept keyword may be in a sentence.
-#[derive(Clone, Copy)]
+#[derive(Clone, Copy, PartialEq, Eq)]
 pub enum Role {
     Kind(Kind),
     Default,
@@ -32,55 +32,36 @@ pub enum Role {
     Value,
 }
 
-#[derive(Clone, Copy)]
-pub enum KindLookup {
-    IsKind(Kind),
-    NoKind,
-}
-
 // A name, from its first byte to past its last.
-#[derive(Clone, Copy)]
+#[derive(Clone, Copy, PartialEq, Eq)]
 pub struct Name {
     pub start: usize,
     pub end: usize,
 }
 
-#[derive(Clone, Copy)]
-pub enum NameReading {
-    Done(Name, usize),
-    Refused(usize),
-}
-
 // A cursor, and the token that stands there: whoever asks what follows need not read it again.
-#[derive(Clone, Copy)]
+#[derive(Clone, Copy, PartialEq, Eq)]
 pub struct Ahead {
     pub at: usize,
     pub token: Token,
 }
 
 // `[n]` or `[left:right]`, with the place of its first mark.
-#[derive(Clone, Copy)]
+#[derive(Clone, Copy, PartialEq, Eq)]
 pub enum Array {
     Missing,
     Size(usize, Number),
     Range(usize, Number, Number),
 }
 
-#[derive(Clone, Copy)]
-pub enum ArrayReading {
-    Done(Array, Ahead),
-    Refused(u8, usize),
-}
+// What is read at a cursor, with the token behind it; or the refusal.
+type ReadingAhead<T> = Result<(T, Ahead), Refusal>;
 
-// A mark and a number, with the mark's place.
-#[derive(Clone, Copy)]
-pub enum Suffix {
-    Missing,
-    Given(usize, Number),
-}
+// A mark's place and the number behind it, where an instance has them.
+pub type Suffix = Option<(usize, Number)>;
 
 // The suffixes behind an array, in their order: `= n`, `@ n`, `+= n`, `%= n`.
-#[derive(Clone, Copy)]
+#[derive(Clone, Copy, PartialEq, Eq)]
 pub enum SuffixKind {
     Reset,
     Address,
@@ -88,14 +69,8 @@ pub enum SuffixKind {
     Alignment,
 }
 
-#[derive(Clone, Copy)]
-pub enum SuffixReading {
-    Done(Suffix, Ahead),
-    Refused(u8, usize),
-}
-
 // An instance with its suffixes.
-#[derive(Clone, Copy)]
+#[derive(Clone, Copy, PartialEq, Eq)]
 pub struct Instance {
     pub name: Name,
     pub array: Array,
@@ -105,34 +80,15 @@ pub struct Instance {
     pub alignment: Suffix,
 }
 
-#[derive(Clone, Copy)]
-pub enum InstanceReading {
-    Done(Instance, usize),
-    Refused(u8, usize),
-}
-
-// The same with the token behind the instance.
-#[derive(Clone, Copy)]
-pub enum InstanceAheadReading {
-    Done(Instance, Ahead),
-    Refused(u8, usize),
-}
-
 // An instance of a list, and whether it is the list's last.
-#[derive(Clone, Copy)]
+#[derive(Clone, Copy, PartialEq, Eq)]
 pub struct ListItem {
     pub instance: Instance,
     pub last: bool,
 }
 
-#[derive(Clone, Copy)]
-pub enum ListItemReading {
-    Done(ListItem, usize),
-    Refused(u8, usize),
-}
-
 // A property's value, with its place; Missing where the property stands alone.
-#[derive(Clone, Copy)]
+#[derive(Clone, Copy, PartialEq, Eq)]
 pub enum Value {
     Missing,
     Number(Number),
@@ -140,20 +96,8 @@ pub enum Value {
     Word(Keyword, usize),
 }
 
-#[derive(Clone, Copy)]
-pub enum ValueLookup {
-    IsValue(Value),
-    NoValue,
-}
-
-#[derive(Clone, Copy)]
-pub enum ValueReading {
-    Done(Value, usize),
-    Refused(u8, usize),
-}
-
 // A property statement: whether it is a default, the property word's place and end, and the value.
-#[derive(Clone, Copy)]
+#[derive(Clone, Copy, PartialEq, Eq)]
 pub struct Assignment {
     pub defaulted: bool,
     pub start: usize,
@@ -161,32 +105,13 @@ pub struct Assignment {
     pub value: Value,
 }
 
-#[derive(Clone, Copy)]
-pub enum AssignmentReading {
-    Done(Assignment, usize),
-    Refused(u8, usize),
-}
-
-// The name of a definition, if it has one.
-#[derive(Clone, Copy)]
-pub enum DefinedName {
-    Unnamed,
-    Named(Name),
-}
-
 // The head of a definition: its kind, the kind word's place, its name, and its opening brace's place.
-#[derive(Clone, Copy)]
+#[derive(Clone, Copy, PartialEq, Eq)]
 pub struct Header {
     pub kind: Kind,
     pub place: usize,
-    pub name: DefinedName,
+    pub name: Option<Name>,
     pub brace: usize,
-}
-
-#[derive(Clone, Copy)]
-pub enum HeaderReading {
-    Done(Header, usize),
-    Refused(usize),
 }
 
 fn role_of(keyword: Keyword) -> Role
@@ -198,106 +123,58 @@ fn role_of(keyword: Keyword) -> Role
         Keyword::Reg => Role::Kind(Kind::Reg),
         Keyword::Field => Role::Kind(Kind::Field),
         Keyword::Default => Role::Default,
-        Keyword::Sw => Role::Property,
-        Keyword::Hw => Role::Property,
-        Keyword::Rclr => Role::PropertyOrValue,
-        Keyword::Rset => Role::PropertyOrValue,
-        Keyword::Woclr => Role::PropertyOrValue,
-        Keyword::Woset => Role::PropertyOrValue,
-        Keyword::True => Role::Value,
-        Keyword::False => Role::Value,
-        Keyword::Na => Role::Value,
-        Keyword::Rw => Role::Value,
-        Keyword::Wr => Role::Value,
-        Keyword::R => Role::Value,
-        Keyword::W => Role::Value,
-        Keyword::Wot => Role::Value,
-        Keyword::Wzs => Role::Value,
-        Keyword::Wzc => Role::Value,
-        Keyword::Wzt => Role::Value,
-        Keyword::Wclr => Role::Value,
-        Keyword::Wset => Role::Value,
-        Keyword::Compact => Role::Value,
-        Keyword::Regalign => Role::Value,
-        Keyword::Fullalign => Role::Value,
+        Keyword::Sw | Keyword::Hw => Role::Property,
+        Keyword::Rclr | Keyword::Rset | Keyword::Woclr | Keyword::Woset => Role::PropertyOrValue,
+        Keyword::True | Keyword::False => Role::Value,
+        Keyword::Na | Keyword::Rw | Keyword::Wr | Keyword::R | Keyword::W => Role::Value,
+        Keyword::Wot | Keyword::Wzs | Keyword::Wzc | Keyword::Wzt => Role::Value,
+        Keyword::Wclr | Keyword::Wset => Role::Value,
+        Keyword::Compact | Keyword::Regalign | Keyword::Fullalign => Role::Value,
     }
 }
 
-fn role_kind(role: Role) -> KindLookup
+fn role_kind(role: Role) -> Option<Kind>
     ensures { result ≡ role_kind role }
 {
     match role {
-        Role::Kind(kind) => KindLookup::IsKind(kind),
-        Role::Default => KindLookup::NoKind,
-        Role::Property => KindLookup::NoKind,
-        Role::PropertyOrValue => KindLookup::NoKind,
-        Role::Value => KindLookup::NoKind,
+        Role::Kind(kind) => Some(kind),
+        Role::Default | Role::Property | Role::PropertyOrValue | Role::Value => None,
     }
 }
 
 fn role_default(role: Role) -> bool
     ensures { result ≡ role_default role }
 {
-    match role {
-        Role::Kind(_) => false,
-        Role::Default => true,
-        Role::Property => false,
-        Role::PropertyOrValue => false,
-        Role::Value => false,
-    }
+    matches!(role, Role::Default)
 }
 
 fn role_property(role: Role) -> bool
     ensures { result ≡ role_property role }
 {
-    match role {
-        Role::Kind(_) => false,
-        Role::Default => false,
-        Role::Property => true,
-        Role::PropertyOrValue => true,
-        Role::Value => false,
-    }
+    matches!(role, Role::Property | Role::PropertyOrValue)
 }
 
 fn role_value(role: Role) -> bool
     ensures { result ≡ role_value role }
 {
-    match role {
-        Role::Kind(_) => false,
-        Role::Default => false,
-        Role::Property => false,
-        Role::PropertyOrValue => true,
-        Role::Value => true,
-    }
+    matches!(role, Role::PropertyOrValue | Role::Value)
 }
 
 #[tactic(auto, unfolding(crate::specs::Words::is_name))]
 fn is_name(word: Word) -> bool
     ensures { result ≡ is_name word }
 {
-    match word {
-        Word::End => false,
-        Word::Name => true,
-        Word::Keyword(_) => false,
-        Word::Number(_) => false,
-        Word::String => false,
-        Word::Mark(_) => false,
-        Word::Bad(_) => false,
-    }
+    matches!(word, Word::Name)
 }
 
 #[tactic(auto, unfolding(crate::specs::Words::kind_of))]
-fn kind_of(word: Word) -> KindLookup
+fn kind_of(word: Word) -> Option<Kind>
     ensures { result ≡ kind_of word }
 {
     match word {
-        Word::End => KindLookup::NoKind,
-        Word::Name => KindLookup::NoKind,
         Word::Keyword(keyword) => role_kind(role_of(keyword)),
-        Word::Number(_) => KindLookup::NoKind,
-        Word::String => KindLookup::NoKind,
-        Word::Mark(_) => KindLookup::NoKind,
-        Word::Bad(_) => KindLookup::NoKind,
+        Word::End | Word::Name | Word::Number(_) | Word::String | Word::Mark(_) | Word::Bad(_) =>
+            None,
     }
 }
 
@@ -305,10 +182,7 @@ fn kind_of(word: Word) -> KindLookup
 pub fn is_kind(word: Word) -> bool
     ensures { result ≡ is_kind word }
 {
-    match kind_of(word) {
-        KindLookup::IsKind(_) => true,
-        KindLookup::NoKind => false,
-    }
+    kind_of(word).is_some()
 }
 
 #[tactic(auto, unfolding(crate::specs::Words::is_default))]
@@ -316,13 +190,9 @@ fn is_default(word: Word) -> bool
     ensures { result ≡ is_default word }
 {
     match word {
-        Word::End => false,
-        Word::Name => false,
         Word::Keyword(keyword) => role_default(role_of(keyword)),
-        Word::Number(_) => false,
-        Word::String => false,
-        Word::Mark(_) => false,
-        Word::Bad(_) => false,
+        Word::End | Word::Name | Word::Number(_) | Word::String | Word::Mark(_) | Word::Bad(_) =>
+            false,
     }
 }
 
@@ -331,49 +201,9 @@ fn is_property(word: Word) -> bool
     ensures { result ≡ is_property word }
 {
     match word {
-        Word::End => false,
         Word::Name => true,
         Word::Keyword(keyword) => role_property(role_of(keyword)),
-        Word::Number(_) => false,
-        Word::String => false,
-        Word::Mark(_) => false,
-        Word::Bad(_) => false,
-    }
-}
-
-fn mark_number(mark: Mark) -> u8
-    ensures { result ≡ mark_number mark }
-{
-    match mark {
-        Mark::OpenBrace => 0,
-        Mark::CloseBrace => 1,
-        Mark::OpenBracket => 2,
-        Mark::CloseBracket => 3,
-        Mark::Semicolon => 4,
-        Mark::Colon => 5,
-        Mark::Comma => 6,
-        Mark::Equals => 7,
-        Mark::At => 8,
-        Mark::PlusEquals => 9,
-        Mark::PercentEquals => 10,
-        Mark::OpenParen => 11,
-        Mark::CloseParen => 12,
-        Mark::Times => 13,
-        Mark::Slash => 14,
-        Mark::Percent => 15,
-        Mark::Plus => 16,
-        Mark::Minus => 17,
-        Mark::ShiftLeft => 18,
-        Mark::ShiftRight => 19,
-        Mark::Less => 20,
-        Mark::AtMost => 21,
-        Mark::More => 22,
-        Mark::AtLeast => 23,
-        Mark::Same => 24,
-        Mark::Unlike => 25,
-        Mark::Ampersand => 26,
-        Mark::Caret => 27,
-        Mark::Bar => 28,
+        Word::End | Word::Number(_) | Word::String | Word::Mark(_) | Word::Bad(_) => false,
     }
 }
 
@@ -381,46 +211,29 @@ fn mark_number(mark: Mark) -> u8
 pub fn is_mark(word: Word, mark: Mark) -> bool
     ensures { result ≡ is_mark mark word }
 {
-    match word {
-        Word::End => false,
-        Word::Name => false,
-        Word::Keyword(_) => false,
-        Word::Number(_) => false,
-        Word::String => false,
-        Word::Mark(found) => mark_number(found) == mark_number(mark),
-        Word::Bad(_) => false,
-    }
+    word == Word::Mark(mark)
 }
 
 #[tactic(auto, unfolding(crate::specs::Words::is_end))]
 pub fn is_end(word: Word) -> bool
     ensures { result ≡ is_end word }
 {
-    match word {
-        Word::End => true,
-        Word::Name => false,
-        Word::Keyword(_) => false,
-        Word::Number(_) => false,
-        Word::String => false,
-        Word::Mark(_) => false,
-        Word::Bad(_) => false,
-    }
+    matches!(word, Word::End)
 }
 
 // A name.
-pub fn read_name(text: &[u8], at: usize) -> NameReading
-    ensures { name_read result ≡ name_at text.now at }
+pub fn read_name(text: &[u8], at: usize) -> Reading<Name>
+    ensures { parsed result ≡ name_at text.now at }
 {
     let token = lex::next_token(text, at);
-    let word = token.word;
-    if is_name(word) {
+    if is_name(token.word) {
         let name = Name {
             start: token.start,
             end: token.end,
         };
-        return NameReading::Done(name, token.end);
+        return Ok((name, token.end));
     }
-    NameReading::Refused(token.start)
+    Err(Rule::BadSentence.at(token.start))
 }
 
 // A cursor with the token that stands there.
@@ -432,51 +245,42 @@ fn look(text: &[u8], at: usize) -> Ahead
 }
 
 // The closing bracket behind an array's numbers.
-fn close_array(text: &[u8], at: usize, array: Array) -> ArrayReading
-    ensures { array_read result ≡ looked text.now (closed_by Mark.CloseBracket array text.now at) }
+fn close_array(text: &[u8], at: usize, array: Array) -> ReadingAhead<Array>
+    ensures { looked_as result ≡ looked text.now (closed_by Mark.CloseBracket array text.now at) }
 {
     let token = lex::next_token(text, at);
-    let word = token.word;
-    if is_mark(word, Mark::CloseBracket) {
-        return ArrayReading::Done(array, look(text, token.end));
+    if is_mark(token.word, Mark::CloseBracket) {
+        return Ok((array, look(text, token.end)));
     }
-    ArrayReading::Refused(3, token.start)
+    Err(Rule::BadSentence.at(token.start))
 }
 
 // What follows the first number of an array whose bracket stands at `bracket`.
-fn read_array_rest(text: &[u8], at: usize, bracket: usize, left: Number) -> ArrayReading
-    ensures { array_read result ≡ looked text.now (array_rest_at bracket left text.now at) }
+fn read_array_rest(text: &[u8], at: usize, bracket: usize, left: Number) -> ReadingAhead<Array>
+    ensures { looked_as result ≡ looked text.now (array_rest_at bracket left text.now at) }
 {
     let token = lex::next_token(text, at);
-    let word = token.word;
-    if is_mark(word, Mark::CloseBracket) {
-        return ArrayReading::Done(Array::Size(bracket, left), look(text, token.end));
+    if is_mark(token.word, Mark::CloseBracket) {
+        return Ok((Array::Size(bracket, left), look(text, token.end)));
     }
-    if !is_mark(word, Mark::Colon) {
-        return ArrayReading::Refused(3, token.start);
+    if !is_mark(token.word, Mark::Colon) {
+        return Err(Rule::BadSentence.at(token.start));
     }
-    match expressions::read_number(text, token.end) {
-        NumberReading::Done(right, next) => {
-            close_array(text, next, Array::Range(bracket, left, right))
-        }
-        NumberReading::Refused(number, place) => ArrayReading::Refused(number, place),
-    }
+    let (right, next) = expressions::read_number(text, token.end)?;
+    close_array(text, next, Array::Range(bracket, left, right))
 }
 
 // `[n]`, `[left:right]` or neither.
-fn read_array(text: &[u8], ahead: Ahead) -> ArrayReading
+fn read_array(text: &[u8], ahead: Ahead) -> ReadingAhead<Array>
     requires { Stands text.now ahead }
-    ensures { array_read result ≡ looked text.now (array_at text.now ahead.at) }
+    ensures { looked_as result ≡ looked text.now (array_at text.now ahead.at) }
 {
     let token = ahead.token;
-    let word = token.word;
-    if !is_mark(word, Mark::OpenBracket) {
-        return ArrayReading::Done(Array::Missing, ahead);
+    if !is_mark(token.word, Mark::OpenBracket) {
+        return Ok((Array::Missing, ahead));
     }
-    match expressions::read_number(text, token.end) {
-        NumberReading::Done(left, next) => read_array_rest(text, next, token.start, left),
-        NumberReading::Refused(number, place) => ArrayReading::Refused(number, place),
-    }
+    let (left, next) = expressions::read_number(text, token.end)?;
+    read_array_rest(text, next, token.start, left)
 }
 
 fn suffix_mark(kind: SuffixKind) -> Mark
@@ -491,21 +295,16 @@ fn suffix_mark(kind: SuffixKind) -> Mark
 }
 
 // A suffix of one kind, or none.
-fn read_suffix(text: &[u8], ahead: Ahead, kind: SuffixKind) -> SuffixReading
+fn read_suffix(text: &[u8], ahead: Ahead, kind: SuffixKind) -> ReadingAhead<Suffix>
     requires { Stands text.now ahead }
-    ensures { suffix_read result ≡ looked text.now (suffix_at kind text.now ahead.at) }
+    ensures { looked_as result ≡ looked text.now (suffix_at kind text.now ahead.at) }
 {
     let token = ahead.token;
-    let word = token.word;
-    if !is_mark(word, suffix_mark(kind)) {
-        return SuffixReading::Done(Suffix::Missing, ahead);
+    if !is_mark(token.word, suffix_mark(kind)) {
+        return Ok((None, ahead));
     }
-    match expressions::read_number(text, token.end) {
-        NumberReading::Done(number, next) => {
-            SuffixReading::Done(Suffix::Given(token.start, number), look(text, next))
-        }
-        NumberReading::Refused(number, place) => SuffixReading::Refused(number, place),
-    }
+    let (number, next) = expressions::read_number(text, token.end)?;
+    Ok((Some((token.start, number)), look(text, next)))
 }
 
 // An instance of its parts.
@@ -530,49 +329,32 @@ fn instance_of(
 }
 
 // Whether a word begins a stride or an alignment.
+#[tactic(auto, unfolding(crate::specs::Ahead::starts_spacing))]
 fn starts_spacing(word: Word) -> bool
     ensures { result ≡ starts_spacing word }
 {
-    if is_mark(word, Mark::PlusEquals) {
-        return true;
-    }
-    is_mark(word, Mark::PercentEquals)
+    is_mark(word, Mark::PlusEquals) || is_mark(word, Mark::PercentEquals)
 }
 
 // Whether a word begins a suffix.
+#[tactic(auto, unfolding(crate::specs::Ahead::starts_suffix))]
 fn starts_suffix(word: Word) -> bool
     ensures { result ≡ starts_suffix word }
 {
-    if is_mark(word, Mark::Equals) {
-        return true;
-    }
-    if is_mark(word, Mark::At) {
-        return true;
-    }
-    starts_spacing(word)
+    is_mark(word, Mark::Equals) || is_mark(word, Mark::At) || starts_spacing(word)
 }
 
 // The suffixes of an instance in order, behind its name and array. Where it has none, the token ahead says so at once.
-fn read_suffixes(text: &[u8], ahead: Ahead, name: Name, array: Array) -> InstanceAheadReading
+fn read_suffixes(text: &[u8], ahead: Ahead, name: Name, array: Array) -> ReadingAhead<Instance>
     requires { Stands text.now ahead }
-    ensures { instance_ahead_read result ≡ looked text.now (suffixed_at text.now (ok (bare name array) ahead.at)) }
+    ensures { looked_as result ≡ looked text.now (suffixed_at text.now (ok (bare name array) ahead.at)) }
 {
-    let token = ahead.token;
-    let word = token.word;
-    if !starts_suffix(word) {
-        let none = Suffix::Missing;
-        let instance = instance_of(name, array, none, none, none, none);
-        return InstanceAheadReading::Done(instance, ahead);
+    if !starts_suffix(ahead.token.word) {
+        return Ok((instance_of(name, array, None, None, None, None), ahead));
     }
-    match read_suffix(text, ahead, SuffixKind::Reset) {
-        SuffixReading::Refused(number, place) => InstanceAheadReading::Refused(number, place),
-        SuffixReading::Done(reset, first) => match read_suffix(text, first, SuffixKind::Address) {
-            SuffixReading::Refused(number, place) => InstanceAheadReading::Refused(number, place),
-            SuffixReading::Done(address, second) => {
-                read_spacing(text, second, name, array, reset, address)
-            }
-        },
-    }
+    let (reset, first) = read_suffix(text, ahead, SuffixKind::Reset)?;
+    let (address, second) = read_suffix(text, first, SuffixKind::Address)?;
+    read_spacing(text, second, name, array, reset, address)
 }
 
 // The stride and alignment of an instance, behind its address. Few instances have either.
@@ -583,134 +365,106 @@ fn read_spacing(
     array: Array,
     reset: Suffix,
     address: Suffix,
-) -> InstanceAheadReading
+) -> ReadingAhead<Instance>
     requires { Stands text.now ahead }
-    ensures { instance_ahead_read result ≡ looked text.now (spacing_at text.now (ok (placed name array reset address) ahead.at)) }
+    ensures { looked_as result ≡ looked text.now (spacing_at text.now (ok (placed name array reset address) ahead.at)) }
 {
-    let token = ahead.token;
-    let word = token.word;
-    if !starts_spacing(word) {
-        let none = Suffix::Missing;
-        let instance = instance_of(name, array, reset, address, none, none);
-        return InstanceAheadReading::Done(instance, ahead);
+    if !starts_spacing(ahead.token.word) {
+        return Ok((instance_of(name, array, reset, address, None, None), ahead));
     }
-    match read_suffix(text, ahead, SuffixKind::Stride) {
-        SuffixReading::Refused(number, place) => InstanceAheadReading::Refused(number, place),
-        SuffixReading::Done(stride, first) => {
-            match read_suffix(text, first, SuffixKind::Alignment) {
-                SuffixReading::Refused(number, place) => InstanceAheadReading::Refused(
-                    number, place,
-                ),
-                SuffixReading::Done(alignment, last) => InstanceAheadReading::Done(
-                    instance_of(name, array, reset, address, stride, alignment),
-                    last,
-                ),
-            }
-        }
-    }
+    let (stride, first) = read_suffix(text, ahead, SuffixKind::Stride)?;
+    let (alignment, last) = read_suffix(text, first, SuffixKind::Alignment)?;
+    Ok((
+        instance_of(name, array, reset, address, stride, alignment),
+        last,
+    ))
 }
 
 // What follows the name of an instance.
-fn read_named(text: &[u8], at: usize, name: Name) -> InstanceAheadReading
-    ensures { instance_ahead_read result ≡ looked text.now (suffixed_at text.now (mapped (bare name) (array_at text.now at))) }
+fn read_named(text: &[u8], at: usize, name: Name) -> ReadingAhead<Instance>
+    ensures { looked_as result ≡ looked text.now (suffixed_at text.now (mapped (bare name) (array_at text.now at))) }
 {
-    match read_array(text, look(text, at)) {
-        ArrayReading::Done(array, ahead) => read_suffixes(text, ahead, name, array),
-        ArrayReading::Refused(number, place) => InstanceAheadReading::Refused(number, place),
-    }
+    let (array, ahead) = read_array(text, look(text, at))?;
+    read_suffixes(text, ahead, name, array)
 }
 
 // An instance, and the token behind it.
-fn read_instance_ahead(text: &[u8], at: usize) -> InstanceAheadReading
-    ensures { instance_ahead_read result ≡ looked text.now (instance_at text.now at) }
+fn read_instance_ahead(text: &[u8], at: usize) -> ReadingAhead<Instance>
+    ensures { looked_as result ≡ looked text.now (instance_at text.now at) }
 {
-    match read_name(text, at) {
-        NameReading::Done(name, next) => read_named(text, next, name),
-        NameReading::Refused(place) => InstanceAheadReading::Refused(3, place),
-    }
+    let (name, next) = read_name(text, at)?;
+    read_named(text, next, name)
 }
 
 // An instance: a name, then its suffixes in order.
-pub fn read_instance(text: &[u8], at: usize) -> InstanceReading
-    ensures { instance_read result ≡ instance_at text.now at }
+pub fn read_instance(text: &[u8], at: usize) -> Reading<Instance>
+    ensures { parsed result ≡ instance_at text.now at }
 {
-    match read_instance_ahead(text, at) {
-        InstanceAheadReading::Done(instance, ahead) => InstanceReading::Done(instance, ahead.at),
-        InstanceAheadReading::Refused(number, place) => InstanceReading::Refused(number, place),
-    }
+    let (instance, ahead) = read_instance_ahead(text, at)?;
+    Ok((instance, ahead.at))
 }
 
 // An instance of a list, by the token behind it.
-fn parted_by(instance: Instance, token: Token) -> ListItemReading
-    ensures { PartedBy instance token (listed_read result) }
+fn parted_by(instance: Instance, token: Token) -> Reading<ListItem>
+    ensures { PartedBy instance token (parsed result) }
 {
-    let word = token.word;
-    if is_mark(word, Mark::Semicolon) {
+    if is_mark(token.word, Mark::Semicolon) {
         let listed = ListItem {
             instance,
             last: true,
         };
-        return ListItemReading::Done(listed, token.end);
+        return Ok((listed, token.end));
     }
-    if is_mark(word, Mark::Comma) {
+    if is_mark(token.word, Mark::Comma) {
         let listed = ListItem {
             instance,
             last: false,
         };
-        return ListItemReading::Done(listed, token.end);
+        Ok((listed, token.end))
+    } else {
+        Err(Rule::BadSentence.at(token.start))
     }
-    ListItemReading::Refused(3, token.start)
 }
 
 // An instance of a list, with the comma or semicolon behind it.
-pub fn read_listed(text: &[u8], at: usize) -> ListItemReading
-    ensures { listed_read result ≡ listed_at text.now at }
+pub fn read_listed(text: &[u8], at: usize) -> Reading<ListItem>
+    ensures { parsed result ≡ listed_at text.now at }
 {
-    match read_instance_ahead(text, at) {
-        InstanceAheadReading::Done(instance, ahead) => {
-            let token = ahead.token;
-            parted_by(instance, token)
-        }
-        InstanceAheadReading::Refused(number, place) => ListItemReading::Refused(number, place),
-    }
+    let (instance, ahead) = read_instance_ahead(text, at)?;
+    parted_by(instance, ahead.token)
 }
 
 // A string or a word of the value lists.
-fn value_in(word: Word, place: usize) -> ValueLookup
+fn value_in(word: Word, place: usize) -> Option<Value>
     ensures { result ≡ value_in word place }
 {
     match word {
-        Word::End => ValueLookup::NoValue,
-        Word::Name => ValueLookup::NoValue,
         Word::Keyword(keyword) => keyword_value(keyword, place),
-        Word::Number(_) => ValueLookup::NoValue,
-        Word::String => ValueLookup::IsValue(Value::String(place)),
-        Word::Mark(_) => ValueLookup::NoValue,
-        Word::Bad(_) => ValueLookup::NoValue,
+        Word::String => Some(Value::String(place)),
+        Word::End | Word::Name | Word::Number(_) | Word::Mark(_) | Word::Bad(_) => None,
     }
 }
 
-fn keyword_value(keyword: Keyword, place: usize) -> ValueLookup
+fn keyword_value(keyword: Keyword, place: usize) -> Option<Value>
     ensures { result ≡ value_in (Word.Keyword keyword) place }
 {
     if role_value(role_of(keyword)) {
-        return ValueLookup::IsValue(Value::Word(keyword, place));
+        return Some(Value::Word(keyword, place));
     }
-    ValueLookup::NoValue
+    None
 }
 
 // A value.
-fn read_value(text: &[u8], at: usize) -> ValueReading
-    ensures { value_read result ≡ value_at text.now at }
+fn read_value(text: &[u8], at: usize) -> Reading<Value>
+    ensures { parsed result ≡ value_at text.now at }
 {
     let token = lex::next_token(text, at);
-    let word = token.word;
-    match value_in(word, token.start) {
-        ValueLookup::IsValue(value) => ValueReading::Done(value, token.end),
-        ValueLookup::NoValue => match expressions::read_number(text, at) {
-            NumberReading::Done(number, next) => ValueReading::Done(Value::Number(number), next),
-            NumberReading::Refused(number, place) => ValueReading::Refused(number, place),
-        },
+    match value_in(token.word, token.start) {
+        Some(value) => Ok((value, token.end)),
+        None => {
+            let (number, next) = expressions::read_number(text, at)?;
+            Ok((Value::Number(number), next))
+        }
     }
 }
 
@@ -726,84 +480,73 @@ fn make_property(defaulted: bool, key: Token, value: Value) -> Assignment
 }
 
 // The semicolon behind a property's value.
-fn close_setting(text: &[u8], at: usize, property: Assignment) -> AssignmentReading
-    ensures { property_read result ≡ closed_by Mark.Semicolon property text.now at }
+fn close_setting(text: &[u8], at: usize, property: Assignment) -> Reading<Assignment>
+    ensures { parsed result ≡ closed_by Mark.Semicolon property text.now at }
 {
     let token = lex::next_token(text, at);
-    let word = token.word;
-    if is_mark(word, Mark::Semicolon) {
-        return AssignmentReading::Done(property, token.end);
+    if is_mark(token.word, Mark::Semicolon) {
+        return Ok((property, token.end));
     }
-    AssignmentReading::Refused(3, token.start)
+    Err(Rule::BadSentence.at(token.start))
 }
 
 // What follows a property word.
-fn read_setting(text: &[u8], at: usize, defaulted: bool, key: Token) -> AssignmentReading
-    ensures { property_read result ≡ setting_at defaulted key text.now at }
+fn read_setting(text: &[u8], at: usize, defaulted: bool, key: Token) -> Reading<Assignment>
+    ensures { parsed result ≡ setting_at defaulted key text.now at }
 {
     let token = lex::next_token(text, at);
-    let word = token.word;
-    if is_mark(word, Mark::Semicolon) {
-        let property = make_property(defaulted, key, Value::Missing);
-        return AssignmentReading::Done(property, token.end);
+    if is_mark(token.word, Mark::Semicolon) {
+        return Ok((make_property(defaulted, key, Value::Missing), token.end));
     }
-    if !is_mark(word, Mark::Equals) {
-        return AssignmentReading::Refused(3, token.start);
+    if !is_mark(token.word, Mark::Equals) {
+        return Err(Rule::BadSentence.at(token.start));
     }
-    match read_value(text, token.end) {
-        ValueReading::Done(value, next) => {
-            close_setting(text, next, make_property(defaulted, key, value))
-        }
-        ValueReading::Refused(number, place) => AssignmentReading::Refused(number, place),
-    }
+    let (value, next) = read_value(text, token.end)?;
+    close_setting(text, next, make_property(defaulted, key, value))
 }
 
 // A property word and what follows it.
-fn read_property_word(text: &[u8], at: usize, defaulted: bool) -> AssignmentReading
-    ensures { property_read result ≡ property_word_at defaulted text.now at }
+fn read_property_word(text: &[u8], at: usize, defaulted: bool) -> Reading<Assignment>
+    ensures { parsed result ≡ property_word_at defaulted text.now at }
 {
     let token = lex::next_token(text, at);
-    let word = token.word;
-    if is_property(word) {
+    if is_property(token.word) {
         return read_setting(text, token.end, defaulted, token);
     }
-    AssignmentReading::Refused(3, token.start)
+    Err(Rule::BadSentence.at(token.start))
 }
 
 // A property statement.
-pub fn read_property(text: &[u8], at: usize) -> AssignmentReading
-    ensures { property_read result ≡ property_at text.now at }
+pub fn read_property(text: &[u8], at: usize) -> Reading<Assignment>
+    ensures { parsed result ≡ property_at text.now at }
 {
     let token = lex::next_token(text, at);
-    let word = token.word;
-    if is_default(word) {
+    if is_default(token.word) {
         return read_property_word(text, token.end, true);
     }
     read_property_word(text, at, false)
 }
 
 // What follows a kind word that stands at `place`, up to the opening brace.
-fn read_header_rest(text: &[u8], at: usize, kind: Kind, place: usize) -> HeaderReading
-    ensures { header_read result ≡ header_rest_at kind place text.now at }
+fn read_header_rest(text: &[u8], at: usize, kind: Kind, place: usize) -> Reading<Header>
+    ensures { parsed result ≡ header_rest_at kind place text.now at }
 {
     let token = lex::next_token(text, at);
-    let word = token.word;
-    if is_mark(word, Mark::OpenBrace) {
+    if is_mark(token.word, Mark::OpenBrace) {
         let header = Header {
             kind,
             place,
-            name: DefinedName::Unnamed,
+            name: None,
             brace: token.start,
         };
-        return HeaderReading::Done(header, token.end);
+        return Ok((header, token.end));
     }
-    if !is_name(word) {
-        return HeaderReading::Refused(token.start);
+    if !is_name(token.word) {
+        return Err(Rule::BadSentence.at(token.start));
     }
     let brace = lex::next_token(text, token.end);
-    let second = brace.word;
-    if !is_mark(second, Mark::OpenBrace) {
-        return HeaderReading::Refused(brace.start);
+    if !is_mark(brace.word, Mark::OpenBrace) {
+        return Err(Rule::BadSentence.at(brace.start));
     }
     let name = Name {
         start: token.start,
@@ -812,43 +555,34 @@ fn read_header_rest(text: &[u8], at: usize, kind: Kind, place: usize) -> HeaderR
     let header = Header {
         kind,
         place,
-        name: DefinedName::Named(name),
+        name: Some(name),
         brace: brace.start,
     };
-    HeaderReading::Done(header, brace.end)
+    Ok((header, brace.end))
 }
 
 // A definition up to its opening brace.
-pub fn read_header(text: &[u8], at: usize) -> HeaderReading
-    ensures { header_read result ≡ header_at text.now at }
+pub fn read_header(text: &[u8], at: usize) -> Reading<Header>
+    ensures { parsed result ≡ header_at text.now at }
 {
     let token = lex::next_token(text, at);
-    let word = token.word;
-    match kind_of(word) {
-        KindLookup::IsKind(kind) => read_header_rest(text, token.end, kind, token.start),
-        KindLookup::NoKind => HeaderReading::Refused(token.start),
+    match kind_of(token.word) {
+        Some(kind) => read_header_rest(text, token.end, kind, token.start),
+        None => Err(Rule::BadSentence.at(token.start)),
     }
 }
 
-pub fn is_named(name: DefinedName) -> bool
+pub fn is_named(name: Option<Name>) -> bool
     ensures { result ≡ is_named name }
 {
-    match name {
-        DefinedName::Unnamed => false,
-        DefinedName::Named(_) => true,
-    }
+    name.is_some()
 }
 
 // Whether an instance statement stands there: two names, a type's and an instance's.
+#[tactic(auto, unfolding(crate::specs::Parts::starts_instances))]
 pub fn starts_instances(text: &[u8], at: usize) -> bool
     ensures { result ≡ starts_instances text.now at }
 {
     let token = lex::next_token(text, at);
-    let word = token.word;
-    if !is_name(word) {
-        return false;
-    }
-    let second = lex::next_token(text, token.end);
-    let second_word = second.word;
-    is_name(second_word)
+    is_name(token.word) && is_name(lex::next_token(text, token.end).word)
 }

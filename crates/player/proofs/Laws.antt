@@ -17,12 +17,8 @@ use Rattle.rows.specs.Rows.{Tables}
 use Rattle.rows.specs.Lawful.{lawful}
 use Rattle.model.specs.declared.Access.{Access}
 use Rattle.model.specs.declared.Access.TheVariants.{Read, Write}
-use Rattle.model.specs.declared.Answer.{Answer}
-use Rattle.model.specs.declared.Answer.TheVariants.{Refused, Word}
 use Rattle.model.specs.Model.{fits, well_formed, word_from, bits_of, answer_with}
 use Rattle.model.specs.Repeats.{repeats}
-use Rattle.access.specs.declared.Retried.{Retried}
-use Rattle.access.specs.declared.Retried.TheVariants as retried
 use Rattle.access.specs.Stored.{stored_fields, device_in}
 use Rattle.access.specs.Perform.{is_short, is_reached, refusal_of, answer_of, store_after, store_after_all, answers_of, retry_refusal, retry_with, retry_of}
 use Rattle.log_lines.specs.declared.Expected.{Expected}
@@ -36,6 +32,9 @@ use Rattle.player.specs.declared.Progress.{Progress}
 use Rattle.player.specs.Play.{retry_text, done_text, outcome_text, played_text, place_text, malformed_text, line_text, line_store, is_malformed, after_line, after_byte, byte_text, byte_store, progress_over, store_over, text_over}
 use Rattle.player.specs.Lines.{joined, parts_text, parts_store, OneLine, at_start, ended_by, line_accesses, accesses_in, access_texts, answer_texts, line_fault, fault_text}
 use Rattle.player.proofs.Steps.{after_stopped, after_other, store_other}
+use Rattle.basics.specs.Judged.{Outcome, gave, barred}
+use Rattle.access.specs.declared.Resend.{Resend}
+use Rattle.access.specs.declared.Resend.TheVariants.{Safe, Unsafe}
 
 -- ---- a log that is cut in two
 
@@ -271,7 +270,7 @@ abbrev first_retry : Bool → Bool → Bool → ℕ
 first_retry formed rows reached = if not formed then 23 else if not rows then 24 else if not reached then 25 else 0
 
 -- no refusal is a word
-word_none : (n word : ℕ) {w : ℕ} → answer_with n word ≡ Word w → n ≡ 0
+word_none : (n word : ℕ) {w : ℕ} → answer_with n word ≡ gave w → n ≡ 0
 word_none zero word e = refl
 word_none (suc n) word e = absurd (let z : ◌≡◌ {A = ℕ} 0 1 = cc in omega arith)
 
@@ -283,7 +282,7 @@ retry_none true true true fitting reached e = absurd (omega arith)
 retry_none true false short fitting reached e = e
 retry_none false rows short fitting reached e = e
 
-module _ (t : Tables) (s : List ℕ) (x : Access) {w : ℕ} (e : answer_of t s x ≡ Word w) where
+module _ (t : Tables) (s : List ℕ) (x : Access) {w : ℕ} (e : answer_of t s x ≡ gave w) where
   answered_none : refusal_of t s x ≡ 0
   unfolding answer_of
   answered_none = word_none (refusal_of t s x) (word_from (device_in t) x (bits_of s)) e
@@ -333,18 +332,18 @@ access_short (Write a w x) =
     let call : length (decimal w ++ blank_hex a.0) ≤ 39 = both_short (decimal w) (blank_hex a.0) (decimal_short w) (blank_hex_short a.0) in
     both_short (bytes "write " ++ (decimal w ++ blank_hex a.0)) (blank_hex x) {m = 45} (omega (arith, call)) (blank_hex_short x)
 
-retry_short : (r : Retried) → length (retry_text r) ≤ 13
-retry_short (retried.Refused n) = omega arith
-retry_short retried.Safe = omega arith
-retry_short retried.Unsafe = omega arith
+retry_short : (r : Outcome Resend) → length (retry_text r) ≤ 13
+retry_short (barred n) = omega arith
+retry_short (gave Safe) = omega arith
+retry_short (gave Unsafe) = omega arith
 
 done_short : (x : Access) (word : ℕ) → length (done_text x word) ≤ 24
 done_short (Read a w) word = omega (arith, hex_short word)
 done_short (Write a w x) word = omega arith
 
-outcome_short : (x : Access) (a : Answer) (r : Retried) → length (outcome_text x a r) ≤ 37
-outcome_short x (Refused n) r = omega (arith, decimal_short n)
-outcome_short x (Word word) r = both_short (done_text x word) (retry_text r) (done_short x word) (retry_short r)
+outcome_short : (x : Access) (a : Outcome ℕ) (r : Outcome Resend) → length (outcome_text x a r) ≤ 37
+outcome_short x (barred n) r = omega (arith, decimal_short n)
+outcome_short x (gave word) r = both_short (done_text x word) (retry_text r) (done_short x word) (retry_short r)
 
 played_short : (t : Tables) (s : List ℕ) (x : Access) → length (played_text t s x) ≤ 102
 unfolding played_text

@@ -1,8 +1,7 @@
 -- A part of a log in the middle of being played: what is left of it comes to what all of it comes to.
 use mathlib.Core.Path.{◌≡◌, refl, sym, ap, ◌∙◌}
 use mathlib.Core.List.{List, [], ◌∷◌}
-use Prim.Native.Nat.{ℕ, ◌+◌, ◌^◌, ◌<◌, ◌≤◌}
-use native.Mathlib.Omega.{arith}
+use Prim.Native.Nat.{ℕ, ◌+◌, ◌<◌, ◌≤◌}
 use lib.ListN.{length, drop, get_or, drop_of_length-le}
 use Rattle.chars.proofs.Laws.{drop_next}
 use Rattle.lines.specs.declared.Sink.{Sink}
@@ -33,16 +32,13 @@ module _ (t : Tables) (s : List ℕ) (p : Progress) where
   store_none = refl
 
 pub record Playing (t : Tables) (room : ℕ) (s₀ out₀ part : List ℕ) (p₀ : Progress) (k₀ : Sink) (s out : List ℕ) (p : Progress) (k : Sink) (i : ℕ) : Type 0 where
-  pub long : length out ≡ length out₀
-  pub stored : length s ≡ length s₀
-  pub short : length part < 2 ^ 64
   pub progress : progress_over p (drop i part) ≡ progress_over p₀ part
   pub store : store_over t s p (drop i part) ≡ store_over t s₀ p₀ part
   pub text : Pouring room out₀ out k₀ (text_over t s₀ p₀ part) k (text_over t s p (drop i part))
 
 module _ (t : Tables) (room : ℕ) (s₀ out₀ part : List ℕ) (p₀ : Progress) (k₀ : Sink) where
-  pub playing_start : length part < 2 ^ 64 → Playing t room s₀ out₀ part p₀ k₀ s₀ out₀ p₀ k₀ 0
-  playing_start h = record { long = refl; stored = refl; short = h; progress = refl; store = refl; text = pouring_start refl }
+  pub playing_start : Playing t room s₀ out₀ part p₀ k₀ s₀ out₀ p₀ k₀ 0
+  playing_start = record { progress = refl; store = refl; text = pouring_start refl }
 
   module _ {s out : List ℕ} {p : Progress} {k : Sink} {i : ℕ} (c : Playing t room s₀ out₀ part p₀ k₀ s out p k i) where
     module _ (h : length part ≤ i) where
@@ -60,22 +56,16 @@ module _ (t : Tables) (room : ℕ) (s₀ out₀ part : List ℕ) (p₀ : Progres
       playing_text = pouring_end (rw none_left at c.text)
 
     module _ (h : i < length part) where
-      pub playing_add : i + 1 < 2 ^ 64
-      playing_add = omega (arith, h, c.short)
-
       one_more : drop i part ≡ get_or part i 0 ∷ drop (i + 1) part
       one_more = drop_next part i h
 
-      pub playing_on : {s' out' : List ℕ} {p' : Progress} {k' : Sink} {b : ℕ} → b ≡ get_or part i 0 → length out' ≡ length out → length s' ≡ length s → s' ≡ byte_store t s p b
+      pub playing_on : {s' out' : List ℕ} {p' : Progress} {k' : Sink} {b : ℕ} → b ≡ get_or part i 0 → s' ≡ byte_store t s p b
           → Pours room out out' k (byte_text t s p b) k' → p' ≡ after_byte p b → Playing t room s₀ out₀ part p₀ k₀ s' out' p' k' (i + 1)
       unfolding text_over
-      playing_on {s'} {out'} {p'} {k'} {b} e m n f w g =
+      playing_on {s'} {out'} {p'} {k'} {b} e f w g =
           let rest : List ℕ = drop (i + 1) part in
           let z : drop i part ≡ b ∷ rest = one_more ∙ ap (λ (x : ℕ). x ∷ rest) (sym e) in
           record {
-            long = m ∙ c.long;
-            stored = n ∙ c.stored;
-            short = c.short;
             progress = ap (λ (q : Progress). progress_over q rest) g ∙ sym (ap (progress_over p) z ∙ progress_more t s p b rest) ∙ c.progress;
             store =
                 ap (λ (u : List ℕ). store_over t u p' rest) f ∙ ap (λ (q : Progress). store_over t (byte_store t s p b) q rest) g

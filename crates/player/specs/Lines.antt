@@ -4,7 +4,6 @@ use Rattle.basics.specs.All.{All}
 use Rattle.std.specs.Prelude.{if◌then◌else◌}
 use Rattle.rows.specs.Rows.{Tables}
 use Rattle.model.specs.declared.Access.{Access}
-use Rattle.model.specs.declared.Answer.{Answer}
 use Rattle.access.specs.Perform.{store_after, retry_of}
 use Rattle.log_lines.specs.declared.LogLine.{LogLine}
 use Rattle.log_lines.specs.declared.LogLine.TheVariants.{Skipped, Made, Malformed}
@@ -12,6 +11,7 @@ use Rattle.log_lines.specs.Log.{fresh, ended}
 use Rattle.log_lines.specs.Text.{access_text}
 use Rattle.player.specs.declared.Progress.{Progress}
 use Rattle.player.specs.Play.{outcome_text, played_text, malformed_text, after_byte, progress_over, store_over, text_over}
+use Rattle.basics.specs.Judged.{Outcome}
 
 -- a log that comes in parts
 unfoldable pub joined : List (List ℕ) → List ℕ
@@ -59,7 +59,7 @@ access_texts t s [] = []
 access_texts t s (x ∷ xs) = played_text t s x ++ access_texts t (store_after t s x) xs
 
 -- the same lines of accesses and their answers
-unfoldable pub answer_texts : Tables → List Access → List Answer → List ℕ
+unfoldable pub answer_texts : Tables → List Access → List (Outcome ℕ) → List ℕ
 answer_texts t [] answers = []
 answer_texts t (x ∷ xs) [] = []
 answer_texts t (x ∷ xs) (a ∷ answers) = (access_text x ++ (outcome_text x a (retry_of t x) ++ (10 ∷ []))) ++ answer_texts t xs answers

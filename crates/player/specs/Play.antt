@@ -6,10 +6,6 @@ use Rattle.lines.specs.Text.{decimal, hex}
 use Rattle.rows.specs.Rows.{Tables}
 use Rattle.model.specs.declared.Access.{Access}
 use Rattle.model.specs.declared.Access.TheVariants.{Read, Write}
-use Rattle.model.specs.declared.Answer.{Answer}
-use Rattle.model.specs.declared.Answer.TheVariants.{Refused, Word}
-use Rattle.access.specs.declared.Retried.{Retried}
-use Rattle.access.specs.declared.Retried.TheVariants as retried
 use Rattle.access.specs.Perform.{answer_of, store_after, retry_of}
 use Rattle.log_lines.specs.declared.Expected.{Expected}
 use Rattle.log_lines.specs.declared.LogLine.{LogLine}
@@ -17,12 +13,15 @@ use Rattle.log_lines.specs.declared.LogLine.TheVariants.{Skipped, Made, Malforme
 use Rattle.log_lines.specs.Log.{fresh, counted, with_byte, ended}
 use Rattle.log_lines.specs.Text.{access_text, expected_text}
 use Rattle.player.specs.declared.Progress.{Progress}
+use Rattle.basics.specs.Judged.{Outcome, gave, barred}
+use Rattle.access.specs.declared.Resend.{Resend}
+use Rattle.access.specs.declared.Resend.TheVariants.{Safe, Unsafe}
 
 -- "`retry=unsafe`, `retry=safe`"; an access that is answered is one that retry answers
-abbrev pub retry_text : Retried → List ℕ
-retry_text (retried.Refused n) = []
-retry_text retried.Safe = bytes " retry=safe"
-retry_text retried.Unsafe = bytes " retry=unsafe"
+abbrev pub retry_text : Outcome Resend → List ℕ
+retry_text (barred n) = []
+retry_text (gave Safe) = bytes " retry=safe"
+retry_text (gave Unsafe) = bytes " retry=unsafe"
 
 -- "`word=0x5`" of a read, "`done`" of a write
 abbrev pub done_text : Access → ℕ → List ℕ
@@ -30,9 +29,9 @@ done_text (Read a w) word = bytes " word=" ++ hex word
 done_text (Write a w x) word = bytes " done"
 
 -- "`refused=25`", or what was done and whether it may be done again
-abbrev pub outcome_text : Access → Answer → Retried → List ℕ
-outcome_text x (Refused n) r = bytes " refused=" ++ decimal n
-outcome_text x (Word word) r = done_text x word ++ retry_text r
+abbrev pub outcome_text : Access → Outcome ℕ → Outcome Resend → List ℕ
+outcome_text x (barred n) r = bytes " refused=" ++ decimal n
+outcome_text x (gave word) r = done_text x word ++ retry_text r
 
 -- the line of an access that is made on this store
 unfoldable pub played_text : Tables → List ℕ → Access → List ℕ

@@ -2,6 +2,7 @@
 #![tactic(auto)]
 
 ghost use Rattle.std.specs.Prelude.{◌≡◌, [], ◌+◌, ◌*◌, ◌≤◌, length};
+ghost use Rattle.basics.specs.Judged.{outcome};
 ghost use Rattle.basics.specs.Limits.{register_limit, index_bound, nest_limit};
 ghost use Rattle.lines.specs.Sinks.{Pours};
 ghost use Rattle.rows.specs.Rows.{tables};
@@ -10,7 +11,7 @@ ghost use Rattle.access.specs.Perform.{store_after};
 ghost use Rattle.player.specs.Play.{retry_text, done_text, outcome_text, played_text, place_text, malformed_text, line_text, line_store, started, is_malformed, after_line, after_byte, byte_text, byte_store, progress_over, text_over, store_over};
 ghost use Rattle.player.specs.Numbers.{rows_end, label_text, number_line, number_lines, numbers_text, is_bounded};
 
-use access::Retried;
+use access::{Resend, Retried};
 use lines::Sink;
 use log_lines::{Expected, Line, LogLine};
 use model::{Access, Answer};
@@ -34,47 +35,42 @@ pub struct Played {
 pub fn started() -> Progress
     ensures { result ≡ started }
 {
-    let line = log_lines::fresh();
     Progress {
-        line,
+        line: log_lines::fresh(),
         number: 1,
         stopped: false,
     }
 }
 
 // Whether an answered access may be sent again.
+#[tactic(auto, using(lines::proofs::Pouring::pouring))]
 fn put_retry(out: &mut [u8], room: usize, sink: Sink, retried: Retried) -> Sink
-    ensures { Pours room out.old out.new sink (retry_text retried) result }
+    ensures { Pours room out.old out.new sink (retry_text (outcome retried)) result }
 {
     match retried {
         // never so: an access that is answered is one that retry answers
-        Retried::Refused(_) => sink,
-        Retried::Safe => lines::put_bytes(out, room, sink, b" retry=safe"),
-        Retried::Unsafe => lines::put_bytes(out, room, sink, b" retry=unsafe"),
+        Err(_) => sink,
+        Ok(Resend::Safe) => lines::put_bytes(out, room, sink, b" retry=safe"),
+        Ok(Resend::Unsafe) => lines::put_bytes(out, room, sink, b" retry=unsafe"),
     }
 }
 
 // What an access gave that was not refused.
+#[tactic(auto, unfolding(lines::specs::Sinks::poured, lines::specs::Sinks::filled))]
 fn put_done(out: &mut [u8], room: usize, start: Sink, access: Access, word: u64) -> Sink
     ensures { Pours room out.old out.new start (done_text access word) result }
 {
     match access {
-        Access::Read {
-            address: _,
-            width: _,
-        } => {
+        Access::Read { .. } => {
             let sink = lines::put_bytes(out, room, start, b" word=");
             lines::put_hex(out, room, sink, word)
         }
-        Access::Write {
-            address: _,
-            width: _,
-            word: _,
-        } => lines::put_bytes(out, room, start, b" done"),
+        Access::Write { .. } => lines::put_bytes(out, room, start, b" done"),
     }
 }
 
 // What an access answered.
+#[tactic(auto, using(lines::proofs::Pouring::appends), unfolding(lines::specs::Sinks::poured, lines::specs::Sinks::filled))]
 fn put_outcome(
     out: &mut [u8],
     room: usize,
@@ -83,14 +79,14 @@ fn put_outcome(
     answer: Answer,
     retried: Retried,
 ) -> Sink
-    ensures { Pours room out.old out.new start (outcome_text access answer retried) result }
+    ensures { Pours room out.old out.new start (outcome_text access (outcome answer) (outcome retried)) result }
 {
     match answer {
-        Answer::Refused(number) => {
+        Err(rule) => {
             let sink = lines::put_bytes(out, room, start, b" refused=");
-            lines::put_decimal(out, room, sink, number as u64)
+            lines::put_decimal(out, room, sink, rule.number() as u64)
         }
-        Answer::Word(word) => {
+        Ok(word) => {
             let sink = put_done(out, room, start, access, word);
             put_retry(out, room, sink, retried)
         }
@@ -98,6 +94,7 @@ fn put_outcome(
 }
 
 // Makes an access and writes its line.
+#[tactic(auto, using(lines::proofs::Pouring::appends), unfolding(crate::specs::Play::played_text))]
 fn play_access(
     registers: &[u64],
     paths: &[u8],
@@ -147,6 +144,7 @@ fn put_malformed(
 }
 
 // Plays a line of the log.
+#[tactic(auto, unfolding(lines::specs::Sinks::poured, lines::specs::Sinks::filled))]
 fn play_line(
     registers: &[u64],
     paths: &[u8],
@@ -176,45 +174,39 @@ fn play_line(
 fn is_malformed(line: LogLine) -> bool
     ensures { result ≡ is_malformed line }
 {
-    match line {
-        LogLine::Skipped => false,
-        LogLine::Made(_) => false,
-        LogLine::Malformed(_, _) => true,
-    }
+    matches!(line, LogLine::Malformed(_, _))
 }
 
 // Behind the end of a line.
 fn after_line(progress: Progress) -> Progress
     ensures { result ≡ after_line progress }
 {
-    let read = progress.line;
-    let line = log_lines::fresh();
     Progress {
-        line,
+        line: log_lines::fresh(),
         number: log_lines::counted(progress.number),
-        stopped: is_malformed(log_lines::ended(read)),
+        stopped: is_malformed(log_lines::ended(progress.line)),
     }
 }
 
 // Behind a byte.
+#[tactic(auto, unfolding(crate::specs::Play::after_byte))]
 fn after_byte(progress: Progress, byte: u8) -> Progress
     ensures { result ≡ after_byte progress byte }
 {
     if progress.stopped {
-        return progress;
-    }
-    if byte == b'\n' {
-        return after_line(progress);
-    }
-    let line = log_lines::with_byte(progress.line, byte);
-    Progress {
-        line,
-        number: progress.number,
-        stopped: false,
+        progress
+    } else if byte == b'\n' {
+        after_line(progress)
+    } else {
+        Progress {
+            line: log_lines::with_byte(progress.line, byte),
+            ..progress
+        }
     }
 }
 
 // Plays a byte of the log: an LF ends a line.
+#[tactic(auto, using(lines::proofs::Pouring::pouring), unfolding(crate::specs::Play::byte_text, crate::specs::Play::byte_store))]
 fn play_byte(
     registers: &[u64],
     paths: &[u8],
@@ -230,10 +222,7 @@ fn play_byte(
     ensures stored { store.new ≡ byte_store (tables registers.now paths.now fields.now labels.now) store.old progress byte }
     ensures written { Pours room out.old out.new sink (byte_text (tables registers.now paths.now fields.now labels.now) store.old progress byte) result }
 {
-    if progress.stopped {
-        return sink;
-    }
-    if byte != b'\n' {
+    if progress.stopped || byte != b'\n' {
         return sink;
     }
     let line = log_lines::ended(progress.line);
@@ -261,19 +250,17 @@ pub fn play(
     let room = out.len();
     let mut progress = start.progress;
     let mut sink = start.sink;
-    let mut i = 0;
-    while i < part.len() {
-        let byte = part[i];
+    for byte in part {
         sink = play_byte(
-            registers, paths, fields, labels, store, out, room, sink, progress, byte,
+            registers, paths, fields, labels, store, out, room, sink, progress, *byte,
         );
-        progress = after_byte(progress, byte);
-        i += 1;
+        progress = after_byte(progress, *byte);
     }
     Played { progress, sink }
 }
 
 // The path of field j of register i, and its name.
+#[tactic(auto, using(lines::proofs::Pouring::pouring), unfolding(crate::specs::Numbers::label_text))]
 fn put_label(
     out: &mut [u8],
     room: usize,
@@ -294,6 +281,7 @@ fn put_label(
 }
 
 // The line of field j of register i: its path, its name and its number.
+#[tactic(auto, using(lines::proofs::Pouring::pouring), unfolding(crate::specs::Numbers::number_line))]
 fn put_number(
     out: &mut [u8],
     room: usize,
@@ -331,8 +319,7 @@ fn put_run(
     ensures { Pours room out.old out.new start (number_lines registers.now paths.now labels.now store.now i first count) result }
 {
     let mut sink = start;
-    let mut k = 0;
-    while k < count {
+    for k in 0..count {
         sink = put_number(
             out,
             room,
@@ -344,27 +331,24 @@ fn put_run(
             i,
             first + k,
         );
-        k += 1;
     }
     sink
 }
 
 // Whether the numbers of a register's row are such as a lawful row may have.
+#[tactic(auto, unfolding(crate::specs::Numbers::is_bounded))]
 fn is_bounded(registers: &[u64], i: usize) -> bool
     requires { i ≤ register_limit }
     ensures { result ≡ is_bounded registers.now i }
 {
     let row = rows::register_row(registers, i);
-    if row.depth > basics::NEST_LIMIT as u64 {
-        return false;
-    }
-    if row.first > basics::FIELD_LIMIT as u64 {
-        return false;
-    }
-    row.count <= basics::FIELD_LIMIT as u64
+    row.depth <= basics::NEST_LIMIT as u64
+        && row.first <= basics::FIELD_LIMIT as u64
+        && row.count <= basics::FIELD_LIMIT as u64
 }
 
 // The numbers of the fields of register i, a line each, behind what the output holds; none where there is no such register.
+#[tactic(auto, using(lines::proofs::Pouring::pouring), unfolding(crate::specs::Numbers::numbers_text, crate::specs::Numbers::is_bounded))]
 pub fn put_numbers(
     out: &mut [u8],
     start: Sink,
@@ -376,10 +360,7 @@ pub fn put_numbers(
 ) -> Sink
     ensures { Pours (length out.old) out.old out.new start (numbers_text registers.now paths.now labels.now store.now i) result }
 {
-    if basics::REGISTER_LIMIT < i {
-        return start;
-    }
-    if !is_bounded(registers, i) {
+    if basics::REGISTER_LIMIT < i || !is_bounded(registers, i) {
         return start;
     }
     let row = rows::register_row(registers, i);
@@ -392,15 +373,10 @@ pub fn put_numbers(
 }
 
 // Where so many rows of a width end, in a table of a length.
+#[tactic(auto, unfolding(crate::specs::Numbers::rows_end))]
 pub fn rows_end(count: usize, width: usize, length: usize) -> usize
     ensures end { result ≡ rows_end count width length }
     ensures within { result ≤ length }
 {
-    if width == 0 {
-        return 0;
-    }
-    if length / width < count {
-        return length;
-    }
-    count * width
+    count.saturating_mul(width).min(length)
 }

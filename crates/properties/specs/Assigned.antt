@@ -1,9 +1,8 @@
 -- What the properties of a body are set to.
-use Rattle.std.specs.Prelude.{Bool, true, false, ℕ, eqb}
+use Rattle.std.specs.Prelude.{Bool, true, false, ℕ, eqb, Option, Some, None}
+use Rattle.std.specs.Option.{option_or}
 use Rattle.property_values.specs.declared.Slot.{Slot}
 use Rattle.property_values.specs.declared.Slot.TheVariants as slot
-use Rattle.basics.specs.declared.Given.{Given}
-use Rattle.basics.specs.declared.Given.TheVariants.{Nothing, Number}
 use Rattle.properties.specs.declared.Settings.{Settings}
 use Rattle.properties.specs.declared.Assigned.{Assigned}
 
@@ -20,7 +19,7 @@ slot_number slot.Addressing = 8
 slot_number slot.Name = 9
 slot_number slot.Desc = 10
 
-abbrev pub given_in : Settings → Slot → Given
+abbrev pub given_in : Settings → Slot → Option ℕ
 given_in s slot.Sw = s.sw
 given_in s slot.Hw = s.hw
 given_in s slot.Reset = s.reset
@@ -33,8 +32,8 @@ given_in s slot.Addressing = s.addressing
 given_in s slot.Name = s.name
 given_in s slot.Desc = s.desc
 
-abbrev pub replaced : Bool → ℕ → Given → Given
-replaced true n old = Number n
+abbrev pub replaced : Bool → ℕ → Option ℕ → Option ℕ
+replaced true n old = Some n
 replaced false n old = old
 
 -- one property set to a number
@@ -55,9 +54,8 @@ assign s l n =
       desc = replaced (eqb k 10) n s.desc;
     }
 
-abbrev pub nearer : Given → Given → Given
-nearer Nothing outer = outer
-nearer (Number n) outer = Number n
+abbrev pub nearer : Option ℕ → Option ℕ → Option ℕ
+nearer near outer = option_or near outer
 
 -- "the nearest wins, an own setting beats it"
 unfoldable pub nearest : Settings → Settings → Settings
@@ -79,17 +77,17 @@ nearest near far =
 abbrev pub no_settings : Settings
 no_settings =
     record {
-      sw = Nothing;
-      hw = Nothing;
-      reset = Nothing;
-      onread = Nothing;
-      onwrite = Nothing;
-      regwidth = Nothing;
-      accesswidth = Nothing;
-      alignment = Nothing;
-      addressing = Nothing;
-      name = Nothing;
-      desc = Nothing;
+      sw = None;
+      hw = None;
+      reset = None;
+      onread = None;
+      onwrite = None;
+      regwidth = None;
+      accesswidth = None;
+      alignment = None;
+      addressing = None;
+      name = None;
+      desc = None;
     }
 
 abbrev pub nothing_assigned : Assigned

@@ -1,66 +1,41 @@
 // The property statements of a body: what each sets, and its fault by 7, 8 or 9.
 #![tactic(auto)]
 
-ghost use Rattle.std.specs.Prelude.{◌≡◌, eqb};
-ghost use Rattle.properties.specs.Assigned.{slot_number, given_in, replaced, assign, nearer, nearest, no_settings, nothing_assigned, settings_of, assigned};
-ghost use Rattle.properties.specs.Properties.{judge_value, judge_settled, judge_known, judge_property, judged_as};
+ghost use Rattle.std.specs.Prelude.{◌≡◌, Some};
+ghost use Rattle.basics.specs.Judged.{judged};
+ghost use Rattle.properties.specs.Assigned.{given_in, assign, nearest, no_settings, nothing_assigned, settings_of, assigned};
+ghost use Rattle.properties.specs.Properties.{judge_value, judge_settled, judge_known, judge_property};
 
-use basics::Given;
-use expressions::Refusal;
+use basics::{Refusal, Rule};
 use parts::{Assignment, Kind};
-use property_values::{Setting, Slot};
-use vocabulary::{Property, PropertyLookup};
+use property_values::Slot;
+use vocabulary::Property;
 
 // What each property is set to.
-#[derive(Clone, Copy)]
+#[derive(Clone, Copy, Default)]
 pub struct Settings {
-    pub sw: Given,
-    pub hw: Given,
-    pub reset: Given,
-    pub onread: Given,
-    pub onwrite: Given,
-    pub regwidth: Given,
-    pub accesswidth: Given,
-    pub alignment: Given,
-    pub addressing: Given,
-    pub name: Given,
-    pub desc: Given,
+    pub sw: Option<u64>,
+    pub hw: Option<u64>,
+    pub reset: Option<u64>,
+    pub onread: Option<u64>,
+    pub onwrite: Option<u64>,
+    pub regwidth: Option<u64>,
+    pub accesswidth: Option<u64>,
+    pub alignment: Option<u64>,
+    pub addressing: Option<u64>,
+    pub name: Option<u64>,
+    pub desc: Option<u64>,
 }
 
 // A body's own settings and its defaults.
-#[derive(Clone, Copy)]
+#[derive(Clone, Copy, Default)]
 pub struct Assigned {
     pub own: Settings,
     pub defaults: Settings,
 }
 
-// A fault's number and place, or what is set after a property statement.
-#[derive(Clone, Copy)]
-pub enum PropertyJudged {
-    Refused(u8, usize),
-    Done(Assigned),
-}
-
-fn slot_number(slot: Slot) -> u8
-    ensures { result ≡ slot_number slot }
-{
-    match slot {
-        Slot::Sw => 0,
-        Slot::Hw => 1,
-        Slot::Reset => 2,
-        Slot::Onread => 3,
-        Slot::Onwrite => 4,
-        Slot::Regwidth => 5,
-        Slot::Accesswidth => 6,
-        Slot::Alignment => 7,
-        Slot::Addressing => 8,
-        Slot::Name => 9,
-        Slot::Desc => 10,
-    }
-}
-
 // What a property is set to.
-fn given_in(settings: Settings, slot: Slot) -> Given
+fn given_in(settings: Settings, slot: Slot) -> Option<u64>
     ensures { result ≡ given_in settings slot }
 {
     match slot {
@@ -78,67 +53,34 @@ fn given_in(settings: Settings, slot: Slot) -> Given
     }
 }
 
-fn replace(chosen: bool, number: u64, old: Given) -> Given
-    ensures { result ≡ replaced chosen number old }
-{
-    if chosen {
-        return Given::Number(number);
-    }
-    old
-}
-
-// What the property `at` is set to, after `slot` is set.
-fn replace_in(settings: Settings, at: Slot, slot: Slot, number: u64) -> Given
-    ensures { result ≡ replaced (eqb (slot_number slot) (slot_number at)) number (given_in settings at) }
-{
-    let chosen = slot_number(slot) == slot_number(at);
-    replace(chosen, number, given_in(settings, at))
-}
-
 // The settings with one property set.
 #[tactic(auto, unfolding(crate::specs::Assigned::assign))]
 fn assign_slot(s: Settings, slot: Slot, n: u64) -> Settings
     ensures { result ≡ assign s slot n }
 {
-    let sw = replace_in(s, Slot::Sw, slot, n);
-    let hw = replace_in(s, Slot::Hw, slot, n);
-    let reset = replace_in(s, Slot::Reset, slot, n);
-    let onread = replace_in(s, Slot::Onread, slot, n);
-    let onwrite = replace_in(s, Slot::Onwrite, slot, n);
-    let regwidth = replace_in(s, Slot::Regwidth, slot, n);
-    let accesswidth = replace_in(s, Slot::Accesswidth, slot, n);
-    let alignment = replace_in(s, Slot::Alignment, slot, n);
-    let addressing = replace_in(s, Slot::Addressing, slot, n);
-    let name = replace_in(s, Slot::Name, slot, n);
-    let desc = replace_in(s, Slot::Desc, slot, n);
-    Settings {
-        sw,
-        hw,
-        reset,
-        onread,
-        onwrite,
-        regwidth,
-        accesswidth,
-        alignment,
-        addressing,
-        name,
-        desc,
+    let set = Some(n);
+    match slot {
+        Slot::Sw => Settings { sw: set, ..s },
+        Slot::Hw => Settings { hw: set, ..s },
+        Slot::Reset => Settings { reset: set, ..s },
+        Slot::Onread => Settings { onread: set, ..s },
+        Slot::Onwrite => Settings { onwrite: set, ..s },
+        Slot::Regwidth => Settings { regwidth: set, ..s },
+        Slot::Accesswidth => Settings {
+            accesswidth: set,
+            ..s
+        },
+        Slot::Alignment => Settings {
+            alignment: set,
+            ..s
+        },
+        Slot::Addressing => Settings {
+            addressing: set,
+            ..s
+        },
+        Slot::Name => Settings { name: set, ..s },
+        Slot::Desc => Settings { desc: set, ..s },
     }
-}
-
-fn nearer_of(near: Given, far: Given) -> Given
-    ensures { result ≡ nearer near far }
-{
-    match near {
-        Given::Nothing => far,
-        Given::Number(number) => Given::Number(number),
-    }
-}
-
-fn nearer_in(near: Settings, far: Settings, slot: Slot) -> Given
-    ensures { result ≡ nearer (given_in near slot) (given_in far slot) }
-{
-    nearer_of(given_in(near, slot), given_in(far, slot))
 }
 
 // The settings of a body over those from outside.
@@ -146,66 +88,43 @@ fn nearer_in(near: Settings, far: Settings, slot: Slot) -> Given
 pub fn nearest_of(near: Settings, far: Settings) -> Settings
     ensures { result ≡ nearest near far }
 {
-    let sw = nearer_in(near, far, Slot::Sw);
-    let hw = nearer_in(near, far, Slot::Hw);
-    let reset = nearer_in(near, far, Slot::Reset);
-    let onread = nearer_in(near, far, Slot::Onread);
-    let onwrite = nearer_in(near, far, Slot::Onwrite);
-    let regwidth = nearer_in(near, far, Slot::Regwidth);
-    let accesswidth = nearer_in(near, far, Slot::Accesswidth);
-    let alignment = nearer_in(near, far, Slot::Alignment);
-    let addressing = nearer_in(near, far, Slot::Addressing);
-    let name = nearer_in(near, far, Slot::Name);
-    let desc = nearer_in(near, far, Slot::Desc);
     Settings {
-        sw,
-        hw,
-        reset,
-        onread,
-        onwrite,
-        regwidth,
-        accesswidth,
-        alignment,
-        addressing,
-        name,
-        desc,
+        sw: near.sw.or(far.sw),
+        hw: near.hw.or(far.hw),
+        reset: near.reset.or(far.reset),
+        onread: near.onread.or(far.onread),
+        onwrite: near.onwrite.or(far.onwrite),
+        regwidth: near.regwidth.or(far.regwidth),
+        accesswidth: near.accesswidth.or(far.accesswidth),
+        alignment: near.alignment.or(far.alignment),
+        addressing: near.addressing.or(far.addressing),
+        name: near.name.or(far.name),
+        desc: near.desc.or(far.desc),
     }
 }
 
+// Nothing is set.
 pub fn no_settings() -> Settings
     ensures { result ≡ no_settings }
 {
-    Settings {
-        sw: Given::Nothing,
-        hw: Given::Nothing,
-        reset: Given::Nothing,
-        onread: Given::Nothing,
-        onwrite: Given::Nothing,
-        regwidth: Given::Nothing,
-        accesswidth: Given::Nothing,
-        alignment: Given::Nothing,
-        addressing: Given::Nothing,
-        name: Given::Nothing,
-        desc: Given::Nothing,
-    }
+    Settings::default()
 }
 
+// Neither a setting nor a default.
 pub fn nothing_assigned() -> Assigned
     ensures { result ≡ nothing_assigned }
 {
-    Assigned {
-        own: no_settings(),
-        defaults: no_settings(),
-    }
+    Assigned::default()
 }
 
 fn settings_of(defaulted: bool, assigned: Assigned) -> Settings
     ensures { result ≡ settings_of defaulted assigned }
 {
     if defaulted {
-        return assigned.defaults;
+        assigned.defaults
+    } else {
+        assigned.own
     }
-    assigned.own
 }
 
 // What is set after one more setting, or default.
@@ -213,14 +132,13 @@ fn settings_of(defaulted: bool, assigned: Assigned) -> Settings
 fn assign_to(defaulted: bool, before: Assigned, slot: Slot, number: u64) -> Assigned
     ensures { result ≡ assigned defaulted before slot number }
 {
-    let own = before.own;
-    let defaults = before.defaults;
     if defaulted {
-        let defaults = assign_slot(defaults, slot, number);
-        return Assigned { own, defaults };
+        let defaults = assign_slot(before.defaults, slot, number);
+        Assigned { defaults, ..before }
+    } else {
+        let own = assign_slot(before.own, slot, number);
+        Assigned { own, ..before }
     }
-    let own = assign_slot(own, slot, number);
-    Assigned { own, defaults }
 }
 
 #[tactic(auto, unfolding(crate::specs::Properties::judge_value))]
@@ -228,17 +146,15 @@ fn judge_value(
     before: Assigned,
     statement: Assignment,
     slot: Slot,
-    setting: Setting,
-) -> PropertyJudged
-    ensures { judged_as result ≡ judge_value before statement slot setting }
+    setting: Option<u64>,
+) -> Result<Assigned, Refusal>
+    ensures { judged result ≡ judge_value before statement slot setting }
 {
     match setting {
-        Setting::Set(number) => {
-            PropertyJudged::Done(assign_to(statement.defaulted, before, slot, number))
-        }
-        Setting::Wrong => {
-            let value = statement.value;
-            PropertyJudged::Refused(9, property_values::value_place(statement.start, value))
+        Some(number) => Ok(assign_to(statement.defaulted, before, slot, number)),
+        None => {
+            let place = property_values::value_place(statement.start, statement.value);
+            Err(Rule::BadValue.at(place))
         }
     }
 }
@@ -248,14 +164,14 @@ fn judge_settled(
     before: Assigned,
     statement: Assignment,
     slot: Slot,
-    refusal: Refusal,
-    setting: Setting,
-) -> PropertyJudged
-    ensures { judged_as result ≡ judge_settled before statement slot refusal setting }
+    refusal: Option<usize>,
+    setting: Option<u64>,
+) -> Result<Assigned, Refusal>
+    ensures { judged result ≡ judge_settled before statement slot refusal setting }
 {
     match refusal {
-        Refusal::Nowhere => judge_value(before, statement, slot, setting),
-        Refusal::AtOperator(place) => PropertyJudged::Refused(9, place),
+        Some(place) => Err(Rule::BadValue.at(place)),
+        None => judge_value(before, statement, slot, setting),
     }
 }
 
@@ -265,25 +181,19 @@ fn judge_known(
     before: Assigned,
     statement: Assignment,
     property: Property,
-) -> PropertyJudged
-    ensures { judged_as result ≡ judge_known kind before statement (PropertyLookup.Known property) }
+) -> Result<Assigned, Refusal>
+    ensures { judged result ≡ judge_known kind before statement (Some property) }
 {
     if !property_values::is_allowed(statement.defaulted, property, kind) {
-        return PropertyJudged::Refused(7, statement.start);
+        return Err(Rule::PropertyMisplaced.at(statement.start));
     }
     let slot = property_values::slot_of(property);
-    if basics::is_given(given_in(settings_of(statement.defaulted, before), slot)) {
-        return PropertyJudged::Refused(8, statement.start);
+    if given_in(settings_of(statement.defaulted, before), slot).is_some() {
+        return Err(Rule::SetTwice.at(statement.start));
     }
-    let value = statement.value;
-    let refusal = property_values::refusal_in(property, value);
-    judge_settled(
-        before,
-        statement,
-        slot,
-        refusal,
-        property_values::setting_of(property, value),
-    )
+    let refusal = property_values::refusal_in(property, statement.value);
+    let setting = property_values::setting_of(property, statement.value);
+    judge_settled(before, statement, slot, refusal, setting)
 }
 
 // A property statement in a body of a component of this kind, with what is set before it.
@@ -293,11 +203,12 @@ pub fn judge_property(
     kind: Kind,
     before: Assigned,
     statement: Assignment,
-) -> PropertyJudged
-    ensures { judged_as result ≡ judge_property text.now kind before statement }
+) -> Result<Assigned, Refusal>
+    ensures { judged result ≡ judge_property text.now kind before statement }
 {
-    match vocabulary::property_of(identifiers::bytes_of(text, statement.start, statement.end)) {
-        PropertyLookup::Unknown => PropertyJudged::Refused(7, statement.start),
-        PropertyLookup::Known(property) => judge_known(kind, before, statement, property),
+    let word = identifiers::bytes_of(text, statement.start, statement.end);
+    match vocabulary::property_of(word) {
+        Some(property) => judge_known(kind, before, statement, property),
+        None => Err(Rule::PropertyMisplaced.at(statement.start)),
     }
 }

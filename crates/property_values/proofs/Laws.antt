@@ -1,85 +1,70 @@
--- Laws of the definitions, one for each way that the code goes.
-use mathlib.Core.Bool.{Bool, true, false}
+-- Laws of the definitions, in the form that the proofs use.
+use mathlib.Core.Bool.{Bool, true, false, ◌||◌}
 use mathlib.Core.Path.{◌≡◌, refl, sym, ap, ◌∙◌}
-use mathlib.Core.List.{[], ◌∷◌}
-use Prim.Native.Nat.{ℕ, zero, suc, ◌-◌, ◌*◌, ◌/◌, ◌^◌}
+use Prim.Native.Nat.{ℕ, zero, suc, ◌+◌, ◌-◌, ◌*◌, ◌^◌, ◌<◌, ◌≤◌}
 use native.Mathlib.Nat.{pow-suc}
 use native.Mathlib.Omega.{arith}
-use types.Run.{OneOf, miss}
-use denote.Enum.Declared.{tag_of}
-use borrow.Author.Tests.{eq-eqb, ne_eqb}
-use Rattle.vocabulary.specs.declared.Property.{Property}
-use Rattle.parts.specs.declared.Value.{Value}
-use Rattle.property_values.specs.Settings.{term_of, wanted_of, is_power_to, listed_setting, short_setting, number_setting, setting_as, setting_of, setting_numbers}
-use Rattle.property_values.specs.declared.WordList.{WordList}
-use Rattle.property_values.specs.declared.Term.{Term}
-use Rattle.property_values.specs.declared.Term.TheVariants.{Word, Number, Text, Other}
-use Rattle.property_values.specs.declared.Wanted.{Wanted}
-use Rattle.property_values.specs.declared.Setting.{Setting}
-use Rattle.property_values.specs.declared.Setting.TheVariants.{Wrong}
-use Rattle.property_values.specs.contracts.Term.{the_type}
+use lib.Count.{ones}
+use lib.Dec.{eqb, leb, ltb}
+use borrow.Author.Tests.{eq-eqb, ne_eqb, eqb-true, eqb-false, lt-leb, ltb-true, ltb-false}
+use Rattle.std.proofs.lemmas.Nat.{ones_cat, pow_pos, zero_from_ones}
+use Rattle.property_values.specs.Settings.{is_power_to, is_alignment}
 
--- the search for a power of two, from two to the power of k downwards; `p` is that power and `x` the answer
-power_yes : (k n : ℕ) → n ≡ 2 ^ k → is_power_to k n ≡ true
+-- a power of two has one bit
+bit_above : (k r : ℕ) → r < 2 ^ k → ones (2 ^ k + r) ≡ 1 + ones r
+unfolding ones
+bit_above k r h = let n : 1 * 2 ^ k ≡ 2 ^ k = omega arith in rw n at (ones_cat k 1 r h)
+
+one_bit : (k n : ℕ) → n ≡ 2 ^ k → ones n ≡ 1
+unfolding ones
+one_bit k n e = let m : n ≡ 2 ^ k + 0 = omega arith in rw m (bit_above k 0 (pow_pos k))
+
+power_parts : (k n : ℕ) → is_power_to k n ≡ true → (ones n ≡ 1) × (n ≤ 2 ^ k)
 unfolding is_power_to
-power_yes zero n e = eq-eqb n 1 e
-power_yes (suc k) n e = rw (eq-eqb n (2 ^ suc k) e)
+power_parts zero n e = let m : n ≡ 2 ^ 0 = eqb-true n 1 e in (one_bit 0 n m, omega arith)
+power_parts (suc k) n e = by (eqb n (2 ^ suc k)) refl e (power_parts k n)
+  where
+    by : (b : Bool) → eqb n (2 ^ suc k) ≡ b → (b || is_power_to k n) ≡ true
+        → (is_power_to k n ≡ true → (ones n ≡ 1) × (n ≤ 2 ^ k)) → (ones n ≡ 1) × (n ≤ 2 ^ suc k)
+    by true q e l = let m : n ≡ 2 ^ suc k = eqb-true n (2 ^ suc k) q in (one_bit (suc k) n m, omega arith)
+    by false q e l = let p : (ones n ≡ 1) × (n ≤ 2 ^ k) = l e in (p.0, omega (arith, pow-suc 2 k))
 
-power_no : (k n : ℕ) → (n ≡ 2 ^ suc k → ⊥) → is_power_to (suc k) n ≡ is_power_to k n
-unfolding is_power_to
-power_no k n f = rw (ne_eqb n (2 ^ suc k) f)
+-- and what has one bit is a power of two
+power_found : (k n : ℕ) → n < 2 ^ suc k → ones n ≡ 1 → is_power_to k n ≡ true
+unfolding is_power_to ones
+power_found zero n h e = by n h e
+  where
+    by : (m : ℕ) → m < 2 ^ 1 → ones m ≡ 1 → eqb m 1 ≡ true
+    by zero h e = absurd (omega arith)
+    by (suc m) h e = eq-eqb (suc m) 1 (omega arith)
+power_found (suc k) n h e = by (ltb n (2 ^ suc k)) refl (λ l. power_found k n l e)
+  where
+    by : (b : Bool) → ltb n (2 ^ suc k) ≡ b → (n < 2 ^ suc k → is_power_to k n ≡ true)
+        → (eqb n (2 ^ suc k) || is_power_to k n) ≡ true
+    by true q l =
+        let m : n < 2 ^ suc k = ltb-true n (2 ^ suc k) q in
+        rw (ne_eqb n (2 ^ suc k) (λ f. omega arith)) (l m)
+    by false q l =
+        let m : 2 ^ suc k ≤ n = ltb-false n (2 ^ suc k) q in
+        let r : ℕ = n - 2 ^ suc k in
+        let s : n ≡ 2 ^ suc k + r = omega arith in
+        let f : r < 2 ^ suc k = omega (arith, pow-suc 2 (suc k)) in
+        let g : ones n ≡ 1 + ones r = ap ones s ∙ bit_above (suc k) r f in
+        let z : r ≡ 0 = zero_from_ones r (omega arith) in
+        rw (eq-eqb n (2 ^ suc k) (omega arith))
 
-power_none : (n : ℕ) → (n ≡ 1 → ⊥) → is_power_to 0 n ≡ false
-unfolding is_power_to
-power_none n f = ne_eqb n 1 f
+module _ (n : ℕ) where
+  pub alignment_small : {b : Bool} → n ≤ 65536 → b ≡ eqb (ones n) 1 → b ≡ is_alignment n
+  alignment_small h e = e ∙ sym (by (eqb (ones n) 1) refl (is_power_to 16 n) refl)
+    where
+      by : (b : Bool) → eqb (ones n) 1 ≡ b → (c : Bool) → is_power_to 16 n ≡ c → c ≡ b
+      by true q c f = sym f ∙ power_found 16 n (omega arith) (eqb-true (ones n) 1 q)
+      by false q true f = absurd (eqb-false (ones n) 1 q (power_parts 16 n f).0)
+      by false q false f = refl
 
-module _ (n k p : ℕ) {x : Bool} (at : is_power_to k n ≡ x) (e : p ≡ 2 ^ k) where
-  pub power_here : n ≡ p → true ≡ x
-  power_here f = sym (power_yes k n (f ∙ e)) ∙ at
-
-  module _ (f : n ≡ p → ⊥) where
-    pub power_last : k ≡ 0 → false ≡ x
-    power_last z =
-        let q : p ≡ 1 = rw z at e in
-        let a : is_power_to 0 n ≡ x = rw z at at in
-        sym (power_none n (λ (g : n ≡ 1). f (g ∙ sym q))) ∙ a
-
-    module _ (z : k ≡ 0 → ⊥) where
-      one_more : suc (k - 1) ≡ k
-      one_more = omega arith
-
-      pub power_next : is_power_to (k - 1) n ≡ x
-      power_next =
-          sym (power_no (k - 1) n (λ g. f (g ∙ ap (λ (j : ℕ). 2 ^ j) one_more ∙ sym e))) ∙ ap (λ (j : ℕ). is_power_to j n) one_more ∙ at
-
-      pub power_half : p / 2 ≡ 2 ^ (k - 1)
-      power_half =
-          let q : p ≡ 2 ^ (k - 1) * 2 = e ∙ ap (λ (j : ℕ). 2 ^ j) (sym one_more) ∙ pow-suc 2 (k - 1) in
-          omega arith
-
--- a term that is no word, and one that is no number
-pub listed_else : (l : WordList) (t : Term) → OneOf (1 ∷ 2 ∷ 3 ∷ []) (tag_of the_type t) → Wrong ≡ listed_setting l t
-listed_else l (Word m c) o = absurd (miss (1 ∷ 2 ∷ 3 ∷ []) 0 tt o)
-listed_else l (Number n) o = refl
-listed_else l Text o = refl
-listed_else l Other o = refl
-
-pub short_else : (e : ℕ) (t : Term) → OneOf (1 ∷ 2 ∷ 3 ∷ []) (tag_of the_type t) → Wrong ≡ short_setting e t
-short_else e (Word m c) o = absurd (miss (1 ∷ 2 ∷ 3 ∷ []) 0 tt o)
-short_else e (Number n) o = refl
-short_else e Text o = refl
-short_else e Other o = refl
-
-pub number_else : (test : ℕ → Bool) (t : Term) → OneOf (0 ∷ 2 ∷ 3 ∷ []) (tag_of the_type t) → Wrong ≡ number_setting test t
-number_else test (Word m c) o = refl
-number_else test (Number n) o = absurd (miss (0 ∷ 2 ∷ 3 ∷ []) 1 tt o)
-number_else test Text o = refl
-number_else test Other o = refl
-
--- what a property statement sets, as a setting and in numbers
-pub set_numbers : (p : Property) (v : Value) {w : Wanted} {t : Term} {r : Setting} → w ≡ wanted_of p → t ≡ term_of v → r ≡ setting_as w t
-    → (r ≡ setting_of p v) × (setting_numbers r ≡ setting_numbers (setting_of p v))
-unfolding setting_of
-set_numbers p v e f g =
-    let h : _ ≡ setting_as (wanted_of p) (term_of v) = rw (e, f) at g in
-    (h, ap setting_numbers h)
+  pub alignment_large : 65536 < n → leb n 65536 ≡ is_alignment n
+  alignment_large h = lt-leb n 65536 h ∙ sym (by (is_power_to 16 n) refl)
+    where
+      by : (c : Bool) → is_power_to 16 n ≡ c → c ≡ false
+      by true f = absurd (let p : (ones n ≡ 1) × (n ≤ 65536) = power_parts 16 n f in omega arith)
+      by false f = refl

@@ -1,12 +1,10 @@
 -- Property statements (document 01, "Names, properties, fields"): where a property may stand (7), which property it sets, and to what (9).
-use Rattle.std.specs.Prelude.{Bool, true, false, ◌||◌, not, List, [], ◌∷◌, ℕ, zero, suc, ◌^◌, eqb}
+use Rattle.std.specs.Prelude.{Bool, true, false, ◌||◌, not, List, [], ◌∷◌, ℕ, zero, suc, ◌^◌, eqb, Option, Some, None}
 use Rattle.std.specs.Prelude.{if◌then◌else◌}
 use Rattle.vocabulary.specs.declared.Property.{Property}
 use Rattle.vocabulary.specs.declared.Property.TheVariants as property
 use Rattle.parts.specs.declared.Kind.{Kind}
 use Rattle.parts.specs.declared.Kind.TheVariants as kind
-use Rattle.expressions.specs.declared.Refusal.{Refusal}
-use Rattle.expressions.specs.declared.Refusal.TheVariants.{Nowhere}
 use Rattle.parts.specs.declared.Value.{Value}
 use Rattle.parts.specs.declared.Value.TheVariants as value
 use Rattle.fields.specs.Codes.{read_code, write_code, is_width}
@@ -23,8 +21,6 @@ use Rattle.property_values.specs.declared.Slot.{Slot}
 use Rattle.property_values.specs.declared.Slot.TheVariants as slot
 use Rattle.property_values.specs.declared.Wanted.{Wanted}
 use Rattle.property_values.specs.declared.Wanted.TheVariants as wanted
-use Rattle.property_values.specs.declared.Setting.{Setting}
-use Rattle.property_values.specs.declared.Setting.TheVariants.{Set, Wrong}
 
 -- "Widths are for reg; access, effects and reset for field; `alignment` for addrmap and regfile; `addressing` for addrmap; `name` and
 -- `desc` for all"
@@ -150,32 +146,32 @@ list_number list.Addressing = 3
 list_number list.Truth = 4
 
 -- a word of the list that is wanted
-abbrev pub listed_setting : WordList → Term → Setting
-listed_setting l (Word m c) = if eqb (list_number m) (list_number l) then Set c else Wrong
-listed_setting l (Number n) = Wrong
-listed_setting l Text = Wrong
-listed_setting l Other = Wrong
+abbrev pub listed_setting : WordList → Term → Option ℕ
+listed_setting l (Word m c) = if eqb (list_number m) (list_number l) then Some c else None
+listed_setting l (Number n) = None
+listed_setting l Text = None
+listed_setting l Other = None
 
 -- a short form's effect: "`= false` sets no effect"
-abbrev pub short_setting : ℕ → Term → Setting
+abbrev pub short_setting : ℕ → Term → Option ℕ
 short_setting effect (Word m c) =
-    if eqb (list_number m) (list_number list.Truth) then (if eqb c 1 then Set effect else Set 0) else Wrong
-short_setting effect (Number n) = Wrong
-short_setting effect Text = Wrong
-short_setting effect Other = Wrong
+    if eqb (list_number m) (list_number list.Truth) then (if eqb c 1 then Some effect else Some 0) else None
+short_setting effect (Number n) = None
+short_setting effect Text = None
+short_setting effect Other = None
 
 -- a number that passes a test
-abbrev pub number_setting : (ℕ → Bool) → Term → Setting
-number_setting test (Word m c) = Wrong
-number_setting test (Number n) = if test n then Set n else Wrong
-number_setting test Text = Wrong
-number_setting test Other = Wrong
+abbrev pub number_setting : (ℕ → Bool) → Term → Option ℕ
+number_setting test (Word m c) = None
+number_setting test (Number n) = if test n then Some n else None
+number_setting test Text = None
+number_setting test Other = None
 
-abbrev pub text_setting : Term → Setting
-text_setting (Word m c) = Wrong
-text_setting (Number n) = Wrong
-text_setting Text = Set 0
-text_setting Other = Wrong
+abbrev pub text_setting : Term → Option ℕ
+text_setting (Word m c) = None
+text_setting (Number n) = None
+text_setting Text = Some 0
+text_setting Other = None
 
 -- the test of a range
 abbrev pub in_range : Wanted → ℕ → Bool
@@ -187,7 +183,7 @@ in_range wanted.Alignment n = is_alignment n
 in_range wanted.String n = false
 
 -- 9: what is set, or `Wrong` for a "value of wrong kind or range"
-unfoldable pub setting_as : Wanted → Term → Setting
+unfoldable pub setting_as : Wanted → Term → Option ℕ
 setting_as (wanted.Listed l) t = listed_setting l t
 setting_as (wanted.Short e) t = short_setting e t
 setting_as wanted.AnyNumber t = number_setting (in_range wanted.AnyNumber) t
@@ -195,13 +191,13 @@ setting_as wanted.Width t = number_setting (in_range wanted.Width) t
 setting_as wanted.Alignment t = number_setting (in_range wanted.Alignment) t
 setting_as wanted.String t = text_setting t
 
-unfoldable pub setting_of : Property → Value → Setting
+unfoldable pub setting_of : Property → Value → Option ℕ
 setting_of p v = setting_as (wanted_of p) (term_of v)
 
 -- a setting in document 01's numbers: 0, 0 and the number that is set; or 9, whose place is below, and 0
-abbrev pub setting_numbers : Setting → List ℕ
-setting_numbers (Set n) = 0 ∷ 0 ∷ n ∷ []
-setting_numbers Wrong = 9 ∷ 0 ∷ 0 ∷ []
+abbrev pub setting_numbers : Option ℕ → List ℕ
+setting_numbers (Some n) = 0 ∷ 0 ∷ n ∷ []
+setting_numbers None = 9 ∷ 0 ∷ 0 ∷ []
 
 -- the place of a 9: "value, or the property if it has none"
 abbrev pub value_place : ℕ → Value → ℕ
@@ -211,20 +207,20 @@ value_place p (value.String s) = s
 value_place p (value.Word k s) = s
 
 -- which operator refuses a value
-abbrev pub value_refusal : Value → Refusal
-value_refusal value.Missing = Nowhere
+abbrev pub value_refusal : Value → Option ℕ
+value_refusal value.Missing = None
 value_refusal (value.Number n) = n.refusal
-value_refusal (value.String s) = Nowhere
-value_refusal (value.Word k s) = Nowhere
+value_refusal (value.String s) = None
+value_refusal (value.Word k s) = None
 
 -- "No .. range over a refused part is judged", while the kind is: so it counts where a number is wanted
-abbrev pub wanted_refusal : Wanted → Refusal → Refusal
-wanted_refusal (wanted.Listed l) r = Nowhere
-wanted_refusal (wanted.Short e) r = Nowhere
+abbrev pub wanted_refusal : Wanted → Option ℕ → Option ℕ
+wanted_refusal (wanted.Listed l) r = None
+wanted_refusal (wanted.Short e) r = None
 wanted_refusal wanted.AnyNumber r = r
 wanted_refusal wanted.Width r = r
 wanted_refusal wanted.Alignment r = r
-wanted_refusal wanted.String r = Nowhere
+wanted_refusal wanted.String r = None
 
-unfoldable pub refusal_in : Property → Value → Refusal
+unfoldable pub refusal_in : Property → Value → Option ℕ
 refusal_in p v = wanted_refusal (wanted_of p) (value_refusal v)

@@ -5,7 +5,7 @@ use std::io;
 use std::io::Write;
 
 // One byte more than a text may have, so that a longer one is seen to be; and the output's room.
-const INPUT: usize = 65537;
+const INPUT: usize = basics::TEXT_LIMIT + 1;
 
 const OUTPUT: usize = 65536;
 

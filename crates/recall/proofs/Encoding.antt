@@ -4,30 +4,26 @@ use mathlib.Core.List.{List, [], ◌∷◌}
 use Prim.Native.Nat.{ℕ, ◌+◌, ◌<◌, ◌≤◌}
 use native.Mathlib.Omega.{arith}
 use lib.ListN.{length, set}
-use borrow.Author.Tests.{eq-eqb, ne_eqb}
 use Rattle.basics.specs.Slices.{cell_of, written}
-use Rattle.expressions.specs.declared.Refusal.{Refusal}
-use Rattle.expressions.specs.declared.Refusal.TheVariants.{Nowhere, AtOperator}
 use Rattle.expressions.specs.declared.Number.{Number}
 use Rattle.parts.specs.declared.Array.{Array}
 use Rattle.parts.specs.declared.Array.TheVariants as array
-use Rattle.parts.specs.declared.Suffix.{Suffix}
-use Rattle.parts.specs.declared.Suffix.TheVariants as suffix
 use Rattle.parts.specs.declared.Instance.{Instance}
 use Rattle.recall.specs.declared.Encoded.{Encoded}
-use Rattle.recall.specs.Encoded.{tag_of, operator_of, refusal_from, encoded_of, suffix_from, left_of, right_of, array_from, suffix_cells, instance_cells, encoded_in, suffix_in, instance_in}
+use Rattle.recall.specs.Encoded.{tag_of, operator_of, encoded_of, suffix_from, left_of, right_of, array_from, suffix_cells, instance_cells, encoded_in, instance_in}
+use Rattle.std.specs.Prelude.{Option, Some, None}
 
 -- a suffix comes back from its numbers
-given_back : (p v q : ℕ) (r : Refusal)
-    → suffix_from (record { tag = tag_of r; place = p; start = q; value = v; operator = operator_of r }) ≡ suffix.Given p (record { value = v; place = q; refusal = r })
+given_back : (p v q : ℕ) (r : Option ℕ)
+    → suffix_from (record { tag = tag_of r; place = p; start = q; value = v; operator = operator_of r }) ≡ Some (p, (record { value = v; place = q; refusal = r }))
 unfolding suffix_from
-given_back p v q Nowhere = refl
-given_back p v q (AtOperator o) = refl
+given_back p v q None = refl
+given_back p v q (Some o) = refl
 
-suffix_back : (x : Suffix) → suffix_from (encoded_of x) ≡ x
+suffix_back : (x : Option (ℕ × Number)) → suffix_from (encoded_of x) ≡ x
 unfolding suffix_from
-suffix_back suffix.Missing = refl
-suffix_back (suffix.Given p n) = given_back p n.value n.place n.refusal
+suffix_back None = refl
+suffix_back (Some (p, n)) = given_back p n.value n.place n.refusal
 
 -- and an array from its two suffixes
 array_from_lem : (a : Array) → array_from (left_of a) (right_of a) ≡ a
@@ -38,7 +34,7 @@ array_from_lem (array.Range p left right) = refl
 array_back : (a : Array) → array_from (suffix_from (encoded_of (left_of a))) (suffix_from (encoded_of (right_of a))) ≡ a
 array_back a = rw (suffix_back (left_of a), suffix_back (right_of a)) (array_from_lem a)
 
-same_parts : (i : Instance) {a : Array} {r d s l : Suffix} → a ≡ i.array → r ≡ i.reset → d ≡ i.address → s ≡ i.stride → l ≡ i.alignment
+same_parts : (i : Instance) {a : Array} {r d s l : Option (ℕ × Number)} → a ≡ i.array → r ≡ i.reset → d ≡ i.address → s ≡ i.stride → l ≡ i.alignment
     → record { name = i.name; array = a; reset = r; address = d; stride = s; alignment = l } ≡ i
 same_parts i e1 e2 e3 e4 e5 = rw (e1, e2, e3, e4, e5)
 
@@ -88,68 +84,8 @@ module _ (u s : List ℕ) (a b : ℕ) (h : (j : ℕ) → j < 32 → cell_of u (a
         part_same 27 (omega arith),
       )
 
--- what the numbers say, one law for each way through the code
-module _ (tag o : ℕ) where
-  pub refusal_none : tag ≡ 1 → Nowhere ≡ refusal_from tag o
-  refusal_none e = rw (eq-eqb tag 1 e)
-
-  pub refusal-some : (tag ≡ 1 → ⊥) → AtOperator o ≡ refusal_from tag o
-  refusal-some e = rw (ne_eqb tag 1 e)
-
-module _ (e : Encoded) where
-  pub suffix_none : e.tag ≡ 0 → suffix.Missing ≡ suffix_from e
-  unfolding suffix_from
-  suffix_none z = rw (eq-eqb e.tag 0 z)
-
-  pub suffix_some : {r : Refusal} → (e.tag ≡ 0 → ⊥) → r ≡ refusal_from e.tag e.operator
-      → suffix.Given e.place (record { value = e.value; place = e.start; refusal = r }) ≡ suffix_from e
-  unfolding suffix_from
-  suffix_some z f = rw (ne_eqb e.tag 0 z, f)
-
-pub none_encoded : {x : Suffix} → x ≡ suffix.Missing → record { tag = 0; place = 0; start = 0; value = 0; operator = 0 } ≡ encoded_of x
-none_encoded e = rw e
-
-pub given_encoded : {x : Suffix} {p : ℕ} {n : Number} {tag o : ℕ} → x ≡ suffix.Given p n → tag ≡ tag_of n.refusal
-    → o ≡ operator_of n.refusal
-    → record { tag = tag; place = p; start = n.place; value = n.value; operator = o } ≡ encoded_of x
-given_encoded e f g = rw (e, f, g)
-
-pub left_size : {a : Array} {p : ℕ} {n : Number} → a ≡ array.Size p n → suffix.Given p n ≡ left_of a
-left_size e = rw e
-
-pub left_range : {a : Array} {p : ℕ} {n m : Number} → a ≡ array.Range p n m → suffix.Given p n ≡ left_of a
-left_range e = rw e
-
-pub right_range : {a : Array} {p : ℕ} {n m : Number} → a ≡ array.Range p n m → suffix.Given p m ≡ right_of a
-right_range e = rw e
-
-module _ {x y : Suffix} {p : ℕ} {n : Number} (e : x ≡ suffix.Given p n) where
-  pub array_size : y ≡ suffix.Missing → array.Size p n ≡ array_from x y
-  array_size f = rw (e, f)
-
-  pub array_range : {q : ℕ} {m : Number} → y ≡ suffix.Given q m → array.Range p n m ≡ array_from x y
-  array_range f = rw (e, f)
-
--- and the cells
-module _ (s : List ℕ) (i : ℕ) where
-  pub encoded_read : {a b c d e : ℕ} → a ≡ cell_of s i → b ≡ cell_of s (i + 1) → c ≡ cell_of s (i + 2) → d ≡ cell_of s (i + 3)
-      → e ≡ cell_of s (i + 4)
-      → record { tag = a; place = b; start = c; value = d; operator = e } ≡ encoded_in s i
-  unfolding encoded_in
-  encoded_read e1 e2 e3 e4 e5 = rw (e1, e2, e3, e4, e5)
-
-  pub suffix_read_lem : {e : Encoded} {x : Suffix} → e ≡ encoded_in s i → x ≡ suffix_from e → x ≡ suffix_in s i
-  suffix_read_lem e f = f ∙ ap suffix_from e
-
-  pub instance_read_lem : {a b : ℕ} {x y r d t l : Suffix} {g : Array} → a ≡ cell_of s i → b ≡ cell_of s (i + 1) → x ≡ suffix_in s (i + 2)
-      → y ≡ suffix_in s (i + 7) → r ≡ suffix_in s (i + 12)
-      → d ≡ suffix_in s (i + 17) → t ≡ suffix_in s (i + 22) → l ≡ suffix_in s (i + 27) → g ≡ array_from x y
-      → record { name = record { start = a; end = b }; array = g; reset = r; address = d; stride = t; alignment = l } ≡ instance_in s i
-  unfolding instance_in
-  instance_read_lem e1 e2 e3 e4 e5 e6 e7 e8 e9 = rw (e9, e1, e2, e3, e4, e5, e6, e7, e8)
-
 -- the numbers of a suffix, put one after another
-pub suffix_put : (t : List ℕ) (i : ℕ) (x : Suffix) {e : Encoded} {t1 t2 t3 t4 t5 : List ℕ} → e ≡ encoded_of x → t1 ≡ set t i e.tag
+pub suffix_put : (t : List ℕ) (i : ℕ) (x : Option (ℕ × Number)) {e : Encoded} {t1 t2 t3 t4 t5 : List ℕ} → e ≡ encoded_of x → t1 ≡ set t i e.tag
     → t2 ≡ set t1 (i + 1) e.place → t3 ≡ set t2 (i + 2) e.start
     → t4 ≡ set t3 (i + 3) e.value → t5 ≡ set t4 (i + 4) e.operator → t5 ≡ written t i (suffix_cells x [])
 unfolding written
@@ -160,7 +96,7 @@ suffix_put t i x e0 e1 e2 e3 e4 e5 =
     rw (n2, n3, n4, e5, e4, e3, e2, e1, e0)
 
 -- a suffix, and what is written behind it
-suffix_more : (t : List ℕ) (i : ℕ) (x : Suffix) (rest : List ℕ) {j : ℕ} → j ≡ i + 5
+suffix_more : (t : List ℕ) (i : ℕ) (x : Option (ℕ × Number)) (rest : List ℕ) {j : ℕ} → j ≡ i + 5
     → written t i (suffix_cells x rest) ≡ written (written t i (suffix_cells x [])) j rest
 unfolding written
 suffix_more t i x rest {j} e =
@@ -172,7 +108,7 @@ two_more : (t : List ℕ) (a x y : ℕ) (rest : List ℕ) {t1 t2 : List ℕ} →
 unfolding written
 two_more t a x y rest e1 e2 = let n : a + 1 + 1 ≡ a + 2 = omega arith in rw (n, e2, e1)
 
-pub instance_put : (t : List ℕ) (a : ℕ) (i : Instance) {l r : Suffix} {t1 t2 t3 t4 t5 t6 t7 t8 : List ℕ} → l ≡ left_of i.array
+pub instance_put : (t : List ℕ) (a : ℕ) (i : Instance) {l r : Option (ℕ × Number)} {t1 t2 t3 t4 t5 t6 t7 t8 : List ℕ} → l ≡ left_of i.array
     → r ≡ right_of i.array
     → t1 ≡ set t a i.name.start → t2 ≡ set t1 (a + 1) i.name.end
     → t3 ≡ written t2 (a + 2) (suffix_cells l []) → t4 ≡ written t3 (a + 7) (suffix_cells r [])
@@ -190,13 +126,13 @@ instance_put t a i {l} {r} {t1} {t2} {t3} {t4} {t5} {t6} {t7} {t8} el er e1 e2 e
     let of_left : List ℕ = suffix_cells (left_of i.array) of_right in
     sym
     (two_more t a i.name.start i.name.end of_left e1 e2
-    ∙ step t2 2 (left_of i.array) of_right (e3 ∙ ap (λ (x : Suffix). written t2 (a + 2) (suffix_cells x [])) el)
-    ∙ step t3 7 (right_of i.array) of-reset (e4 ∙ ap (λ (x : Suffix). written t3 (a + 7) (suffix_cells x [])) er)
+    ∙ step t2 2 (left_of i.array) of_right (e3 ∙ ap (λ (x : Option (ℕ × Number)). written t2 (a + 2) (suffix_cells x [])) el)
+    ∙ step t3 7 (right_of i.array) of-reset (e4 ∙ ap (λ (x : Option (ℕ × Number)). written t3 (a + 7) (suffix_cells x [])) er)
     ∙ step t4 12 i.reset of-address e5
     ∙ step t5 17 i.address of-stride e6
     ∙ step t6 22 i.stride of-alignment e7
     ∙ sym e8)
   where
-    step : (s : List ℕ) (k : ℕ) (x : Suffix) (rest : List ℕ) {u : List ℕ} → u ≡ written s (a + k) (suffix_cells x [])
+    step : (s : List ℕ) (k : ℕ) (x : Option (ℕ × Number)) (rest : List ℕ) {u : List ℕ} → u ≡ written s (a + k) (suffix_cells x [])
         → written s (a + k) (suffix_cells x rest) ≡ written u (a + (k + 5)) rest
     step s k x rest e = suffix_more s (a + k) x rest (omega arith) ∙ ap (λ (v : List ℕ). written v (a + (k + 5)) rest) (sym e)

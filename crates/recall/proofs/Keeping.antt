@@ -14,13 +14,13 @@ use Rattle.parts.specs.Parts.{instance_at}
 use Rattle.parts.specs.declared.Instance.{Instance}
 use Rattle.cells.specs.Cells.{place_in, row_in}
 use Rattle.cells.specs.Decoded.{child_in}
-use Rattle.cells.specs.declared.ChildReading.TheVariants as child_reading
 use Rattle.cells.proofs.Laws.{written-length, written_other, written_same}
 use Rattle.layout.specs.declared.Shape.{Shape}
 use Rattle.sizes.specs.Shapes.{shapes_size, shape_width, shape_in, ShapesIn}
 use Rattle.recall.specs.Encoded.{instance_cells, instance_in}
 use Rattle.recall.specs.Shelves.{shelf_count, shelf_width, recall_size, shelf_at, GivenAt, Shelved}
 use Rattle.recall.proofs.Encoding.{instance_back, cells_count, instance_same}
+use Rattle.basics.specs.Judged.{fine}
 
 -- the shapes stay, and the length
 pub record ShapesStay (s u : List ℕ) : Type 0 where
@@ -63,7 +63,7 @@ shapes_stay {s} {u} l h i = record { count = i.count; each = λ r m. shape_stays
 pub shelf_child : (text t s : List ℕ) (i : ℕ) {x place k at row : ℕ} {b : Bool} {y : Instance} → Shelved text s → x ≡ cell_of t i
     → place ≡ place_in x → k < shelf_count → at ≡ shelf_at k → b ≡ eqb (cell_of s at) (place + 1) → b ≡ true
     → (row ≡ row_in x) × (row < definition_limit)
-    → y ≡ instance_in s (at + 1) → child_reading.Done row y ≡ child_in text (cell_of t i)
+    → y ≡ instance_in s (at + 1) → fine (row, y) ≡ child_in text (cell_of t i)
 unfolding child_in
 shelf_child text t s i {x} {place} {k} {at} {row} {b} {y} h e1 e2 l e3 e4 e5 (e6, m) e7 =
     let held : cell_of s (shelf_at k) ≡ place + 1 = rw e3 at (eqb-true (cell_of s at) (place + 1) (sym e4 ∙ e5)) in

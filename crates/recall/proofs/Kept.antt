@@ -9,16 +9,14 @@ use lib.Dec.{eqb, leb, ltb}
 use lib.ListN.{length, set, length-set, get_or-eq_default}
 use lib.Seq.{get_or-set_same, get_or-set_other}
 use borrow.Author.Tests.{lt-ltb, le-ltb, ltb-true, ltb-false, le-leb, lt-leb, eqb-true, eqb-false, eq-eqb, ne_eqb}
-use Rattle.std.specs.Prelude.{if◌then◌else◌}
+use Rattle.std.specs.Prelude.{if◌then◌else◌, Result, Ok, Err}
 use Rattle.basics.specs.Slices.{cell_of, written}
 use Rattle.lex.specs.Token.{token_at}
 use Rattle.lex.specs.declared.Token.{Token}
-use Rattle.parts.specs.Reading.{Parsed, ok, stop}
+use Rattle.basics.specs.declared.Refusal.{Refusal}
+use Rattle.parts.specs.Reading.{Parsed, ok, stop, parsed}
 use Rattle.parts.specs.Parts.{instance_at}
-use Rattle.parts.specs.Answers.{instance_read}
 use Rattle.parts.specs.declared.Instance.{Instance}
-use Rattle.parts.specs.declared.InstanceReading.{InstanceReading}
-use Rattle.parts.specs.declared.InstanceReading.TheVariants as instance_reading
 use Rattle.cells.specs.Cells.{entry_places, entries_at, first_in, count_in, place_in}
 use Rattle.cells.specs.declared.Span.{Span}
 use Rattle.sizes.specs.declared.Extent.{Extent}
@@ -99,13 +97,13 @@ module _ (text t s : List ℕ) (i : ℕ) {b : Bool} (e : b ≡ is_surely_short (
     unfolding kept_at
     kept_as g = rw (sym e ∙ h, ← place_is, g)
 
-    pub at_read : {y : InstanceReading} {instance : Instance} {next : ℕ} {u : List ℕ} → instance_read y ≡ instance_at text place
-        → y ≡ instance_reading.Done instance next → u ≡ kept_one text s place instance next → u ≡ kept_at text t s i
-    at_read g q r = r ∙ sym (kept_as (ap instance_read (sym q) ∙ g))
+    module _ {y : Result (Instance × ℕ) Refusal} (g : parsed y ≡ instance_at text place) where
+      pub at_read : {instance : Instance} {next : ℕ} {u : List ℕ} → y ≡ Ok (instance, next) → u ≡ kept_one text s place instance next
+          → u ≡ kept_at text t s i
+      at_read q r = r ∙ sym (kept_as (ap parsed (sym q) ∙ g))
 
-    pub at_refused : {y : InstanceReading} {number at : ℕ} → instance_read y ≡ instance_at text place → y ≡ instance_reading.Refused number at
-        → s ≡ kept_at text t s i
-    at_refused g q = sym (kept_as (ap instance_read (sym q) ∙ g))
+      pub at_refused : {r : Refusal} → y ≡ Err r → s ≡ kept_at text t s i
+      at_refused q = sym (kept_as (ap parsed (sym q) ∙ g))
 
 -- one after another: what is left to do from here comes to the same as all of it
 pub record Left (f : List ℕ → ℕ → List ℕ) (s u : List ℕ) (from i to : ℕ) : Type 0 where
@@ -136,15 +134,15 @@ module _ (f : List ℕ → ℕ → List ℕ) where
 
 -- a definition's instances
 module _ (text t s : List ℕ) (row : ℕ) {x : Span} (p : (x.from ≡ entries_at + first_in t row) × (x.to ≡ x.from + count_in t row)) where
-  pub cells_start : Left (kept_at text t) s s x.from x.from x.to
-  cells_start = left_start (kept_at text t) s x.from x.to (omega (arith, p.1))
+  pub cells_start : Left (kept_at text t) s s (entries_at + first_in t row) x.from x.to
+  cells_start = rw (← p.0) (left_start (kept_at text t) s x.from x.to (omega (arith, p.1)))
 
-  pub cells_end : (map : ℕ) {u : List ℕ} {i : ℕ} → (row ≡ map → ⊥) → Left (kept_at text t) s u x.from i x.to → x.to ≤ i
+  pub cells_end : (map : ℕ) {u : List ℕ} {i : ℕ} → (row ≡ map → ⊥) → Left (kept_at text t) s u (entries_at + first_in t row) i x.to → x.to ≤ i
       → u ≡ kept_row text t map s row
   unfolding kept_row
   cells_end map e c h =
-      let n : x.to - x.from ≡ count_in t row = omega (arith, p.1) in
-      rw (ne_eqb row map e, ← n, ← p.0) (left_done (kept_at text t) c h)
+      let n : x.to - (entries_at + first_in t row) ≡ count_in t row = omega (arith, p.0, p.1) in
+      rw (ne_eqb row map e, ← n) (left_done (kept_at text t) c h)
 
 pub cells_none : (text t s : List ℕ) (map row : ℕ) → row ≡ map → s ≡ kept_row text t map s row
 unfolding kept_row

@@ -1,61 +1,58 @@
 -- An instance in 32 cells: 0 and 1 its name's start and end; from 2 and 7 on its array, kept as two suffixes; from 12, 17, 22 and 27 on its
 -- reset, address, stride and alignment. A suffix takes five cells.
-use Rattle.std.specs.Prelude.{List, [], ◌∷◌, ℕ, ◌+◌, eqb}
+use Rattle.std.specs.Prelude.{List, [], ◌∷◌, ℕ, ◌+◌, eqb, Option, Some, None}
 use Rattle.std.specs.Prelude.{if◌then◌else◌}
 use Rattle.basics.specs.Slices.{cell_of}
-use Rattle.expressions.specs.declared.Refusal.{Refusal}
-use Rattle.expressions.specs.declared.Refusal.TheVariants.{Nowhere, AtOperator}
 use Rattle.parts.specs.declared.Array.{Array}
 use Rattle.parts.specs.declared.Array.TheVariants as array
-use Rattle.parts.specs.declared.Suffix.{Suffix}
-use Rattle.parts.specs.declared.Suffix.TheVariants as suffix
 use Rattle.parts.specs.declared.Instance.{Instance}
 use Rattle.recall.specs.declared.Encoded.{Encoded}
+use Rattle.expressions.specs.declared.Number.{Number}
 
 -- a sound number or a refused one, and the operator that refuses it
-abbrev pub tag_of : Refusal → ℕ
-tag_of Nowhere = 1
-tag_of (AtOperator p) = 2
+abbrev pub tag_of : Option ℕ → ℕ
+tag_of None = 1
+tag_of (Some p) = 2
 
-abbrev pub operator_of : Refusal → ℕ
-operator_of Nowhere = 0
-operator_of (AtOperator p) = p
+abbrev pub operator_of : Option ℕ → ℕ
+operator_of None = 0
+operator_of (Some p) = p
 
-abbrev pub refusal_from : ℕ → ℕ → Refusal
-refusal_from tag p = if eqb tag 1 then Nowhere else AtOperator p
+abbrev pub refusal_from : ℕ → ℕ → Option ℕ
+refusal_from tag p = if eqb tag 1 then None else Some p
 
 -- a suffix, and what its five numbers say
-abbrev pub encoded_of : Suffix → Encoded
-encoded_of suffix.Missing = record { tag = 0; place = 0; start = 0; value = 0; operator = 0 }
-encoded_of (suffix.Given p n) =
+abbrev pub encoded_of : Option (ℕ × Number) → Encoded
+encoded_of None = record { tag = 0; place = 0; start = 0; value = 0; operator = 0 }
+encoded_of (Some (p, n)) =
     record { tag = tag_of n.refusal; place = p; start = n.place; value = n.value; operator = operator_of n.refusal }
 
-unfoldable pub suffix_from : Encoded → Suffix
+unfoldable pub suffix_from : Encoded → Option (ℕ × Number)
 suffix_from e =
-    if eqb e.tag 0 then suffix.Missing else
-    suffix.Given e.place (record { value = e.value; place = e.start; refusal = refusal_from e.tag e.operator })
+    if eqb e.tag 0 then None else
+    Some (e.place, (record { value = e.value; place = e.start; refusal = refusal_from e.tag e.operator }))
 
 -- an array as two suffixes: the second is there for a range only
-abbrev pub left_of : Array → Suffix
-left_of array.Missing = suffix.Missing
-left_of (array.Size p n) = suffix.Given p n
-left_of (array.Range p left right) = suffix.Given p left
+abbrev pub left_of : Array → Option (ℕ × Number)
+left_of array.Missing = None
+left_of (array.Size p n) = Some (p, n)
+left_of (array.Range p left right) = Some (p, left)
 
-abbrev pub right_of : Array → Suffix
-right_of array.Missing = suffix.Missing
-right_of (array.Size p n) = suffix.Missing
-right_of (array.Range p left right) = suffix.Given p right
+abbrev pub right_of : Array → Option (ℕ × Number)
+right_of array.Missing = None
+right_of (array.Size p n) = None
+right_of (array.Range p left right) = Some (p, right)
 
-abbrev pub array_from : Suffix → Suffix → Array
-array_from suffix.Missing s = array.Missing
-array_from (suffix.Given p n) suffix.Missing = array.Size p n
-array_from (suffix.Given p left) (suffix.Given q right) = array.Range p left right
+abbrev pub array_from : Option (ℕ × Number) → Option (ℕ × Number) → Array
+array_from None s = array.Missing
+array_from (Some (p, n)) None = array.Size p n
+array_from (Some (p, left)) (Some (q, right)) = array.Range p left right
 
 -- the cells of an instance
 abbrev pub encoded_cells : Encoded → List ℕ → List ℕ
 encoded_cells e rest = e.tag ∷ e.place ∷ e.start ∷ e.value ∷ e.operator ∷ rest
 
-abbrev pub suffix_cells : Suffix → List ℕ → List ℕ
+abbrev pub suffix_cells : Option (ℕ × Number) → List ℕ → List ℕ
 suffix_cells s rest = encoded_cells (encoded_of s) rest
 
 unfoldable pub instance_cells : Instance → List ℕ
@@ -68,7 +65,7 @@ unfoldable pub encoded_in : List ℕ → ℕ → Encoded
 encoded_in s i =
     record { tag = cell_of s i; place = cell_of s (i + 1); start = cell_of s (i + 2); value = cell_of s (i + 3); operator = cell_of s (i + 4) }
 
-abbrev pub suffix_in : List ℕ → ℕ → Suffix
+abbrev pub suffix_in : List ℕ → ℕ → Option (ℕ × Number)
 suffix_in s i = suffix_from (encoded_in s i)
 
 unfoldable pub instance_in : List ℕ → ℕ → Instance

@@ -1,5 +1,5 @@
 -- Which instances are kept: those that are long in the text, each on the shelf of its place. It is a matter of speed: whatever is kept is
--- what the text gives (proofs/Kept, `Long-Kept`), and nothing else stands on which they are.
+-- what the text gives (proofs/Kept, `long_kept`), and nothing else stands on which they are.
 use Rattle.std.specs.Prelude.{Bool, ◌&&◌, List, ℕ, zero, suc, ◌+◌, ◌/◌, ◌%◌, eqb, leb, ltb, length, set}
 use Rattle.std.specs.Prelude.{if◌then◌else◌}
 use Rattle.basics.specs.Slices.{cell_of, written}

@@ -2,6 +2,7 @@
 #![tactic(auto)]
 
 ghost use Rattle.std.specs.Prelude.{◌≡◌, [], ◌+◌, ◌<◌, ◌≤◌, eqb};
+ghost use Rattle.basics.specs.Judged.{judged};
 ghost use Rattle.basics.specs.Limits.{definition_limit, index_bound};
 ghost use Rattle.basics.specs.Slices.{cell_of, written};
 ghost use Rattle.cells.specs.Cells.{instance_room, first_in, count_in};
@@ -11,9 +12,9 @@ ghost use Rattle.recall.specs.Encoded.{tag_of, operator_of, encoded_of, refusal_
 ghost use Rattle.recall.specs.Shelves.{shelf_count, recall_size, shelf_at, Shelved};
 ghost use Rattle.recall.specs.Kept.{reach_of, shelf_of, is_surely_short, kept_one, kept_at, kept_row, emptied, kept_long};
 
-use cells::ChildReading;
-use expressions::{Number, Refusal};
-use parts::{Array, Instance, InstanceReading, Name, Suffix};
+use basics::Refusal;
+use expressions::Number;
+use parts::{Array, Instance, Name, Suffix};
 use sizes::Extent;
 
 // How many shelves there are, and the cells of one: a place, and an instance.
@@ -35,88 +36,82 @@ pub struct Encoded {
     pub operator: u64,
 }
 
-fn tag_of(refusal: Refusal) -> u64
-    ensures { result ≡ tag_of refusal }
+// The operator that refuses a number, in two cells.
+fn tag_of(operator: Option<usize>) -> u64
+    ensures { result ≡ tag_of operator }
 {
-    match refusal {
-        Refusal::Nowhere => 1,
-        Refusal::AtOperator(_) => 2,
+    match operator {
+        None => 1,
+        Some(_) => 2,
     }
 }
 
-fn operator_of(refusal: Refusal) -> u64
-    ensures { result ≡ operator_of refusal }
+fn operator_of(operator: Option<usize>) -> u64
+    ensures { result ≡ operator_of operator }
 {
-    match refusal {
-        Refusal::Nowhere => 0,
-        Refusal::AtOperator(place) => place as u64,
+    match operator {
+        None => 0,
+        Some(place) => place as u64,
     }
 }
 
-fn refusal_from(tag: u64, operator: u64) -> Refusal
+fn refusal_from(tag: u64, operator: u64) -> Option<usize>
     ensures { result ≡ refusal_from tag operator }
 {
     if tag == 1 {
-        return Refusal::Nowhere;
+        None
+    } else {
+        Some(operator as usize)
     }
-    Refusal::AtOperator(operator as usize)
 }
 
 fn encoded_of(suffix: Suffix) -> Encoded
     ensures { result ≡ encoded_of suffix }
 {
     match suffix {
-        Suffix::Missing => Encoded {
+        None => Encoded {
             tag: 0,
             place: 0,
             start: 0,
             value: 0,
             operator: 0,
         },
-        Suffix::Given(place, number) => {
-            let refusal = number.refusal;
-            let tag = tag_of(refusal);
-            let operator = operator_of(refusal);
-            Encoded {
-                tag,
-                place: place as u64,
-                start: number.place as u64,
-                value: number.value,
-                operator,
-            }
-        }
+        Some((place, number)) => Encoded {
+            tag: tag_of(number.refusal),
+            place: place as u64,
+            start: number.place as u64,
+            value: number.value,
+            operator: operator_of(number.refusal),
+        },
     }
 }
 
+#[tactic(auto, unfolding(crate::specs::Encoded::suffix_from))]
 fn suffix_from(encoded: Encoded) -> Suffix
     ensures { result ≡ suffix_from encoded }
 {
     if encoded.tag == 0 {
-        return Suffix::Missing;
+        return None;
     }
     let number = Number {
         value: encoded.value,
         place: encoded.start as usize,
         refusal: refusal_from(encoded.tag, encoded.operator),
     };
-    Suffix::Given(encoded.place as usize, number)
+    Some((encoded.place as usize, number))
 }
 
+#[tactic(auto, unfolding(crate::specs::Encoded::encoded_in))]
 fn encoded_at(shapes: &[u64], at: usize) -> Encoded
     requires { at ≤ index_bound }
     ensures { result ≡ encoded_in shapes.now at }
 {
-    let tag = basics::cell(shapes, at);
-    let place = basics::cell(shapes, at + 1);
-    let start = basics::cell(shapes, at + 2);
-    let value = basics::cell(shapes, at + 3);
-    let operator = basics::cell(shapes, at + 4);
     Encoded {
-        tag,
-        place,
-        start,
-        value,
-        operator,
+        tag: basics::cell(shapes, at),
+        place: basics::cell(shapes, at + 1),
+        start: basics::cell(shapes, at + 2),
+        value: basics::cell(shapes, at + 3),
+        operator: basics::cell(shapes, at + 4),
     }
 }
 
@@ -124,8 +119,7 @@ fn suffix_at(shapes: &[u64], at: usize) -> Suffix
     requires { at ≤ index_bound }
     ensures { result ≡ suffix_in shapes.now at }
 {
-    let encoded = encoded_at(shapes, at);
-    suffix_from(encoded)
+    suffix_from(encoded_at(shapes, at))
 }
 
 fn put_suffix(shapes: &mut [u64], at: usize, suffix: Suffix)
@@ -145,9 +139,8 @@ fn left_of(array: Array) -> Suffix
     ensures { result ≡ left_of array }
 {
     match array {
-        Array::Missing => Suffix::Missing,
-        Array::Size(place, size) => Suffix::Given(place, size),
-        Array::Range(place, left, _) => Suffix::Given(place, left),
+        Array::Missing => None,
+        Array::Size(place, number) | Array::Range(place, number, _) => Some((place, number)),
     }
 }
 
@@ -155,49 +148,37 @@ fn right_of(array: Array) -> Suffix
     ensures { result ≡ right_of array }
 {
     match array {
-        Array::Missing => Suffix::Missing,
-        Array::Size(_, _) => Suffix::Missing,
-        Array::Range(place, _, right) => Suffix::Given(place, right),
+        Array::Missing | Array::Size(_, _) => None,
+        Array::Range(place, _, right) => Some((place, right)),
     }
 }
 
 fn array_from(first: Suffix, second: Suffix) -> Array
     ensures { result ≡ array_from first second }
 {
-    match first {
-        Suffix::Missing => Array::Missing,
-        Suffix::Given(place, left) => match second {
-            Suffix::Missing => Array::Size(place, left),
-            Suffix::Given(_, right) => Array::Range(place, left, right),
-        },
+    match (first, second) {
+        (None, _) => Array::Missing,
+        (Some((place, left)), None) => Array::Size(place, left),
+        (Some((place, left)), Some((_, right))) => Array::Range(place, left, right),
     }
 }
 
 // The instance in the cells from an index on.
+#[tactic(auto, unfolding(crate::specs::Encoded::instance_in))]
 fn instance_at(shapes: &[u64], at: usize) -> Instance
     requires { at ≤ recall_size }
     ensures { result ≡ instance_in shapes.now at }
 {
-    let start = basics::cell(shapes, at);
-    let end = basics::cell(shapes, at + 1);
-    let name = Name {
-        start: start as usize,
-        end: end as usize,
-    };
-    let first = suffix_at(shapes, at + 2);
-    let second = suffix_at(shapes, at + 7);
-    let reset = suffix_at(shapes, at + 12);
-    let address = suffix_at(shapes, at + 17);
-    let stride = suffix_at(shapes, at + 22);
-    let alignment = suffix_at(shapes, at + 27);
-    let array = array_from(first, second);
     Instance {
-        name,
-        array,
-        reset,
-        address,
-        stride,
-        alignment,
+        name: Name {
+            start: basics::cell(shapes, at) as usize,
+            end: basics::cell(shapes, at + 1) as usize,
+        },
+        array: array_from(suffix_at(shapes, at + 2), suffix_at(shapes, at + 7)),
+        reset: suffix_at(shapes, at + 12),
+        address: suffix_at(shapes, at + 17),
+        stride: suffix_at(shapes, at + 22),
+        alignment: suffix_at(shapes, at + 27),
     }
 }
 
@@ -206,20 +187,14 @@ fn put_instance(shapes: &mut [u64], at: usize, instance: Instance)
     requires { at ≤ recall_size }
     ensures { shapes.new ≡ written shapes.old at (instance_cells instance) }
 {
-    let name = instance.name;
-    let array = instance.array;
-    let reset = instance.reset;
-    let address = instance.address;
-    let stride = instance.stride;
-    let alignment = instance.alignment;
-    basics::put(shapes, at, name.start as u64);
-    basics::put(shapes, at + 1, name.end as u64);
-    put_suffix(shapes, at + 2, left_of(array));
-    put_suffix(shapes, at + 7, right_of(array));
-    put_suffix(shapes, at + 12, reset);
-    put_suffix(shapes, at + 17, address);
-    put_suffix(shapes, at + 22, stride);
-    put_suffix(shapes, at + 27, alignment);
+    basics::put(shapes, at, instance.name.start as u64);
+    basics::put(shapes, at + 1, instance.name.end as u64);
+    put_suffix(shapes, at + 2, left_of(instance.array));
+    put_suffix(shapes, at + 7, right_of(instance.array));
+    put_suffix(shapes, at + 12, instance.reset);
+    put_suffix(shapes, at + 17, instance.address);
+    put_suffix(shapes, at + 22, instance.stride);
+    put_suffix(shapes, at + 27, instance.alignment);
 }
 
 // How many bytes make an instance long: a text's share for one shelf, so that no two long ones meet on a shelf. This and the choice of the
@@ -274,9 +249,14 @@ fn is_on_shelf(shapes: &[u64], at: usize, place: usize) -> bool
 }
 
 // The instance of a cell: from its shelf if it is there, else read again at its place.
-pub fn child_at(text: &[u8], cells: &[u64], shapes: &[u64], i: usize) -> ChildReading
+pub fn child_at(
+    text: &[u8],
+    cells: &[u64],
+    shapes: &[u64],
+    i: usize,
+) -> Result<(usize, Instance), Refusal>
     requires { Shelved text.now shapes.now }
-    ensures { result ≡ child_in text.now (cell_of cells.now i) }
+    ensures { judged result ≡ child_in text.now (cell_of cells.now i) }
 {
     if is_surely_short(text.len(), cells, i) {
         return cells::child_at(text, cells, i);
@@ -285,9 +265,7 @@ pub fn child_at(text: &[u8], cells: &[u64], shapes: &[u64], i: usize) -> ChildRe
     let place = cells::place_in(entry);
     let at = shelf_at(shelf_of(text.len(), place));
     if is_on_shelf(shapes, at, place) {
-        let row = cells::row_in(entry);
-        let instance = instance_at(shapes, at + 1);
-        return ChildReading::Done(row, instance);
+        return Ok((cells::row_in(entry), instance_at(shapes, at + 1)));
     }
     cells::child_at(text, cells, i)
 }
@@ -296,10 +274,8 @@ pub fn child_at(text: &[u8], cells: &[u64], shapes: &[u64], i: usize) -> ChildRe
 fn clear_shelves(shapes: &mut [u64])
     ensures { shapes.new ≡ emptied shapes.old }
 {
-    let mut shelf = 0;
-    while shelf < SHELF_COUNT {
+    for shelf in 0..SHELF_COUNT {
         basics::put(shapes, shelf_at(shelf), 0);
-        shelf += 1;
     }
 }
 
@@ -307,8 +283,7 @@ fn clear_shelves(shapes: &mut [u64])
 fn keep(text: &[u8], shapes: &mut [u64], place: usize, instance: Instance, next: usize)
     ensures { shapes.new ≡ kept_one text.now shapes.old place instance next }
 {
-    let token = lex::next_token(text, next);
-    let end = token.start;
+    let end = lex::next_token(text, next).start;
     if end <= place {
         return;
     }
@@ -328,11 +303,8 @@ fn keep_at(text: &[u8], cells: &[u64], shapes: &mut [u64], i: usize)
         return;
     }
     let place = cells::place_in(basics::cell(cells, i));
-    match parts::read_instance(text, place) {
-        InstanceReading::Done(instance, next) => keep(text, shapes, place, instance, next),
-        InstanceReading::Refused(_, _) => {
-            // never so: the cells hold readable instances
-        }
+    if let Ok((instance, next)) = parts::read_instance(text, place) {
+        keep(text, shapes, place, instance, next);
     }
 }
 
@@ -345,10 +317,8 @@ fn keep_row(text: &[u8], cells: &[u64], shapes: &mut [u64], extent: Extent, row:
         return;
     }
     let span = cells::instances_of(cells, row);
-    let mut i = span.from;
-    while i < span.to {
+    for i in span.from..span.to {
         keep_at(text, cells, shapes, i);
-        i += 1;
     }
 }
 
@@ -358,9 +328,7 @@ pub fn keep_long_instances(text: &[u8], cells: &[u64], shapes: &mut [u64], exten
     ensures { shapes.new ≡ kept_long text.now cells.now shapes.old extent }
 {
     clear_shelves(shapes);
-    let mut row = 0;
-    while row < extent.rows {
+    for row in 0..extent.rows {
         keep_row(text, cells, shapes, extent, row);
-        row += 1;
     }
 }

@@ -4,7 +4,7 @@
 
 ghost use Rattle.std.specs.Prelude.{◌≤◌, IfOk, length};
 
-use compile::Compiled;
+use basics::Refusal;
 use lines::Sink;
 use player::{Played, Progress};
 use std::env::{Env, FillError};
@@ -34,17 +34,13 @@ enum Failure {
     NoRoom,
 }
 
-// Where a log is read, and whether there may be more to play.
+// The rows of a map.
 #[derive(Clone, Copy)]
-struct Turn {
-    progress: Progress,
-    more: bool,
-}
-
-fn at_most(n: usize, most: usize) -> usize
-    ensures { result ≤ most }
-{
-    if n < most { n } else { most }
+struct Rows<'a> {
+    registers: &'a [u64],
+    paths: &'a [u8],
+    fields: &'a [u64],
+    labels: &'a [u8],
 }
 
 // Says what could not be done with which file, and why. Where that fails too, there is nobody left to tell.
@@ -65,7 +61,7 @@ fn show<W: Write>(out: &mut W, text: &[u8], sink: Sink) -> Result<(), Failure> {
         // never so: the room is larger than what a part of a log or a register's fields write
         return Err(Failure::NoRoom);
     }
-    let count = at_most(sink.at, text.len());
+    let count = sink.at.min(text.len());
     out.write_all(&text[..count]).map_err(Failure::Write)
 }
 
@@ -77,82 +73,62 @@ fn read_text<F: Files>(files: &F, path: &str, text: &mut [u8]) -> Result<usize, 
     streams::fill(&mut file, text).map_err(Failure::ReadMap)
 }
 
-// Plays some bytes of a log, and writes what they write.
+// Plays some bytes of a log, and writes what they write. Answers what to go on from; nothing behind a line that is none.
 fn play_bytes<W: Write>(
     out: &mut W,
-    registers: &[u64],
-    paths: &[u8],
-    fields: &[u64],
-    labels: &[u8],
+    rows: Rows<'_>,
     store: &mut [u64],
     progress: Progress,
     part: &[u8],
-) -> Result<Turn, Failure> {
+) -> Result<Option<Progress>, Failure> {
     let mut text = [0u8; OUTPUT];
     let sink = Sink { at: 0, full: false };
     let start = Played { progress, sink };
     let played = player::play(
-        registers, paths, fields, labels, store, &mut text, start, part,
+        rows.registers,
+        rows.paths,
+        rows.fields,
+        rows.labels,
+        store,
+        &mut text,
+        start,
+        part,
     );
     show(out, &text, played.sink)?;
     let next = played.progress;
-    Ok(Turn {
-        progress: next,
-        more: !next.stopped,
-    })
+    Ok((!next.stopped).then_some(next))
 }
 
-// Reads a part of a log and plays it. The end of the log ends its last line.
+// Reads a part of a log and plays it. The end of the log ends its last line, and there is nothing to go on from.
 fn play_part<L: Read, W: Write>(
     log: &mut L,
     out: &mut W,
-    registers: &[u64],
-    paths: &[u8],
-    fields: &[u64],
-    labels: &[u8],
+    rows: Rows<'_>,
     store: &mut [u64],
     progress: Progress,
-) -> Result<Turn, Failure> {
+) -> Result<Option<Progress>, Failure> {
     let mut part = [0u8; PART];
     let count = log.read(&mut part).map_err(Failure::ReadLog)?;
     if count == 0 {
-        let last = play_bytes(
-            out, registers, paths, fields, labels, store, progress, b"\n",
-        )?;
-        return Ok(Turn {
-            progress: last.progress,
-            more: false,
-        });
+        play_bytes(out, rows, store, progress, b"\n")?;
+        return Ok(None);
     }
-    play_bytes(
-        out,
-        registers,
-        paths,
-        fields,
-        labels,
-        store,
-        progress,
-        &part[..count],
-    )
+    play_bytes(out, rows, store, progress, &part[..count])
 }
 
 // Plays a log to its end or to a line that is none. The loop counts its turns, since nothing says that a log ends.
 fn play_log<L: Read, W: Write>(
     log: &mut L,
     out: &mut W,
-    registers: &[u64],
-    paths: &[u8],
-    fields: &[u64],
-    labels: &[u8],
+    rows: Rows<'_>,
     store: &mut [u64],
 ) -> Result<(), Failure> {
     let mut progress = player::started();
     for _ in 0..u64::MAX {
-        let turn = play_part(log, out, registers, paths, fields, labels, store, progress)?;
-        if !turn.more {
-            break;
+        match play_part(log, out, rows, store, progress)? {
+            Some(next) => progress = next,
+            None => break,
         }
-        progress = turn.progress;
     }
     Ok(())
 }
@@ -160,88 +136,57 @@ fn play_log<L: Read, W: Write>(
 // The numbers of a register's fields.
 fn show_register<W: Write>(
     out: &mut W,
-    registers: &[u64],
-    paths: &[u8],
-    labels: &[u8],
+    rows: Rows<'_>,
     store: &[u64],
     i: usize,
 ) -> Result<(), Failure> {
     let mut text = [0u8; OUTPUT];
     let start = Sink { at: 0, full: false };
-    let sink = player::put_numbers(&mut text, start, registers, paths, labels, store, i);
+    let sink = player::put_numbers(
+        &mut text,
+        start,
+        rows.registers,
+        rows.paths,
+        rows.labels,
+        store,
+        i,
+    );
     show(out, &text, sink)
 }
 
-// The numbers of all fields.
-fn show_fields<W: Write>(
-    out: &mut W,
-    registers: &[u64],
-    paths: &[u8],
-    labels: &[u8],
-    store: &[u64],
-) -> Result<(), Failure> {
-    let count = registers.len() / basics::REGISTER_ROW_WIDTH;
-    for i in 0..count {
-        show_register(out, registers, paths, labels, store, i)?;
-    }
-    Ok(())
-}
-
-// Plays the log of this name on a map, from the reset store.
+// Plays the log of this name on a map, from the reset store, and then shows the numbers of all fields.
 fn replay_rows<F: Files, W: Write>(
     files: &F,
     out: &mut W,
-    registers: &[u64],
-    paths: &[u8],
-    fields: &[u64],
-    labels: &[u8],
+    rows: Rows<'_>,
     path: &str,
 ) -> Result<(), Failure> {
     let mut log = fs::open(files, path).map_err(Failure::OpenLog)?;
     let mut store = [0u64; basics::FIELD_LIMIT];
-    access::reset(registers, paths, fields, labels, &mut store);
-    play_log(&mut log, out, registers, paths, fields, labels, &mut store)?;
-    show_fields(out, registers, paths, labels, &store)
+    let _ = access::reset(
+        rows.registers,
+        rows.paths,
+        rows.fields,
+        rows.labels,
+        &mut store,
+    );
+    play_log(&mut log, out, rows, &mut store)?;
+    for i in 0..rows.registers.len() / basics::REGISTER_ROW_WIDTH {
+        show_register(out, rows, &store, i)?;
+    }
+    Ok(())
 }
 
-fn show_refusal<W: Write>(out: &mut W, number: u64, at: u64) -> Result<(), Failure> {
+fn show_refusal<W: Write>(out: &mut W, refusal: Refusal) -> Result<(), Failure> {
     let mut text = [0u8; OUTPUT];
-    let count = reply::write_refusal(&mut text, number, at);
-    show(
-        out,
-        &text,
-        Sink {
-            at: count,
-            full: false,
-        },
-    )
+    let at = reply::write_refusal(&mut text, refusal.rule.number() as u64, refusal.at as u64);
+    show(out, &text, Sink { at, full: false })
 }
 
-// Plays the log of this name on the first rows of the tables.
-fn replay_tables<F: Files, W: Write>(
-    files: &F,
-    out: &mut W,
-    registers: &[u64],
-    paths: &[u8],
-    fields: &[u64],
-    labels: &[u8],
-    count: usize,
-    all: usize,
-    path: &str,
-) -> Result<(), Failure> {
-    let registers_end = player::rows_end(count, basics::REGISTER_ROW_WIDTH, registers.len());
-    let paths_end = player::rows_end(count, basics::PATH_ROW_WIDTH, paths.len());
-    let fields_end = player::rows_end(all, basics::FIELD_ROW_WIDTH, fields.len());
-    let labels_end = player::rows_end(all, basics::NAME_WIDTH, labels.len());
-    replay_rows(
-        files,
-        out,
-        &registers[..registers_end],
-        &paths[..paths_end],
-        &fields[..fields_end],
-        &labels[..labels_end],
-        path,
-    )
+// The first rows of a table.
+fn first<T>(cells: &[T], count: usize, width: usize) -> &[T] {
+    let end = player::rows_end(count, width, cells.len());
+    &cells[..end]
 }
 
 // Plays the log of this name on the map of a text.
@@ -256,10 +201,16 @@ fn replay_text<F: Files, W: Write>(
     let mut fields = [0u64; reply::FIELDS];
     let mut labels = [0u8; reply::LABELS];
     match compile::compile(text, &mut registers, &mut paths, &mut fields, &mut labels) {
-        Compiled::Refused(number, place) => show_refusal(out, number as u64, place.at as u64),
-        Compiled::Accepted(count, all) => replay_tables(
-            files, out, &registers, &paths, &fields, &labels, count, all, path,
-        ),
+        Ok(counts) => {
+            let rows = Rows {
+                registers: first(&registers, counts.registers, basics::REGISTER_ROW_WIDTH),
+                paths: first(&paths, counts.registers, basics::PATH_ROW_WIDTH),
+                fields: first(&fields, counts.fields, basics::FIELD_ROW_WIDTH),
+                labels: first(&labels, counts.fields, basics::NAME_WIDTH),
+            };
+            replay_rows(files, out, rows, path)
+        }
+        Err(refusal) => show_refusal(out, refusal),
     }
 }
 

@@ -6,7 +6,6 @@
 ghost use Rattle.std.specs.Prelude.{◌≤◌, IfOk, length};
 
 use case_io::MOST_CASES;
-use compile::Compiled;
 use lines::Sink;
 use player::Played;
 use std::fs::Files;
@@ -16,131 +15,96 @@ use std::{fs, io};
 // Room for a text, a log, an answer and an output.
 const ROOM: usize = 65536;
 
-// What a case comes to.
+// The rows of a map.
 #[derive(Clone, Copy)]
-enum CaseOutcome {
-    Agrees,
-    Differs,
-    NoCase,
+struct Rows<'a> {
+    registers: &'a [u64],
+    paths: &'a [u8],
+    fields: &'a [u64],
+    labels: &'a [u8],
 }
 
-fn at_most(n: usize, most: usize) -> usize
-    ensures { result ≤ most }
-{
-    if n < most { n } else { most }
-}
-
-// Plays a log, cut into parts of so many bytes and one more.
-fn play_parts(
-    registers: &[u64],
-    paths: &[u8],
-    fields: &[u64],
-    labels: &[u8],
-    store: &mut [u64],
-    out: &mut [u8],
-    log: &[u8],
-    more: usize,
-) -> Sink {
-    let sink = Sink { at: 0, full: false };
+// Plays a log, cut into parts of so many bytes.
+fn play_parts(rows: Rows<'_>, store: &mut [u64], out: &mut [u8], log: &[u8], size: usize) -> Sink {
     let mut played = Played {
         progress: player::started(),
-        sink,
+        sink: Sink { at: 0, full: false },
     };
-    let mut at = 0;
-    while at < log.len() {
-        let end = at + 1 + at_most(more, log.len() - at - 1);
-        let part = &log[at..end];
-        played = player::play(registers, paths, fields, labels, store, out, played, part);
-        at = end;
+    for part in log.chunks(size.max(1)) {
+        played = play(rows, store, out, played, part);
     }
-    let last = player::play(registers, paths, fields, labels, store, out, played, b"\n");
-    last.sink
+    play(rows, store, out, played, b"\n").sink
 }
 
-// The numbers of all fields.
-fn put_fields(
-    out: &mut [u8],
-    start: Sink,
-    registers: &[u64],
-    paths: &[u8],
-    labels: &[u8],
-    store: &[u64],
-) -> Sink {
-    let count = registers.len() / basics::REGISTER_ROW_WIDTH;
-    let mut sink = start;
-    let mut i = 0;
-    while i < count {
-        sink = player::put_numbers(out, sink, registers, paths, labels, store, i);
-        i += 1;
-    }
-    sink
-}
-
-// What the log writes on these rows, from the reset store.
-fn replay_rows(
-    registers: &[u64],
-    paths: &[u8],
-    fields: &[u64],
-    labels: &[u8],
-    out: &mut [u8],
-    log: &[u8],
-    more: usize,
-) -> usize {
-    let mut store = [0u64; basics::FIELD_LIMIT];
-    access::reset(registers, paths, fields, labels, &mut store);
-    let played = play_parts(registers, paths, fields, labels, &mut store, out, log, more);
-    let sink = put_fields(out, played, registers, paths, labels, &store);
-    sink.at
-}
-
-// What the log writes on the first rows of the tables.
-fn replay_tables(
-    registers: &[u64],
-    paths: &[u8],
-    fields: &[u64],
-    labels: &[u8],
-    out: &mut [u8],
-    log: &[u8],
-    count: usize,
-    all: usize,
-    more: usize,
-) -> usize {
-    let registers_end = player::rows_end(count, basics::REGISTER_ROW_WIDTH, registers.len());
-    let paths_end = player::rows_end(count, basics::PATH_ROW_WIDTH, paths.len());
-    let fields_end = player::rows_end(all, basics::FIELD_ROW_WIDTH, fields.len());
-    let labels_end = player::rows_end(all, basics::NAME_WIDTH, labels.len());
-    replay_rows(
-        &registers[..registers_end],
-        &paths[..paths_end],
-        &fields[..fields_end],
-        &labels[..labels_end],
+fn play(rows: Rows<'_>, store: &mut [u64], out: &mut [u8], start: Played, part: &[u8]) -> Played {
+    player::play(
+        rows.registers,
+        rows.paths,
+        rows.fields,
+        rows.labels,
+        store,
         out,
-        log,
-        more,
+        start,
+        part,
     )
 }
 
+// What the log writes on these rows, from the reset store, and then the numbers of all fields.
+fn replay_rows(rows: Rows<'_>, out: &mut [u8], log: &[u8], size: usize) -> usize {
+    let mut store = [0u64; basics::FIELD_LIMIT];
+    let _ = access::reset(
+        rows.registers,
+        rows.paths,
+        rows.fields,
+        rows.labels,
+        &mut store,
+    );
+    let mut sink = play_parts(rows, &mut store, out, log, size);
+    for i in 0..rows.registers.len() / basics::REGISTER_ROW_WIDTH {
+        sink = player::put_numbers(
+            out,
+            sink,
+            rows.registers,
+            rows.paths,
+            rows.labels,
+            &store,
+            i,
+        );
+    }
+    sink.at
+}
+
+// The first rows of a table.
+fn first<T>(cells: &[T], count: usize, width: usize) -> &[T] {
+    let end = player::rows_end(count, width, cells.len());
+    &cells[..end]
+}
+
 // What the program writes for a text and a log.
-fn replay(text: &[u8], log: &[u8], out: &mut [u8], more: usize) -> usize {
+fn replay(text: &[u8], log: &[u8], out: &mut [u8], size: usize) -> usize {
     let mut registers = [0u64; reply::REGISTERS];
     let mut paths = [0u8; reply::PATHS];
     let mut fields = [0u64; reply::FIELDS];
     let mut labels = [0u8; reply::LABELS];
     match compile::compile(text, &mut registers, &mut paths, &mut fields, &mut labels) {
-        Compiled::Refused(number, place) => {
-            reply::write_refusal(out, number as u64, place.at as u64)
+        Ok(counts) => {
+            let rows = Rows {
+                registers: first(&registers, counts.registers, basics::REGISTER_ROW_WIDTH),
+                paths: first(&paths, counts.registers, basics::PATH_ROW_WIDTH),
+                fields: first(&fields, counts.fields, basics::FIELD_ROW_WIDTH),
+                labels: first(&labels, counts.fields, basics::NAME_WIDTH),
+            };
+            replay_rows(rows, out, log, size)
         }
-        Compiled::Accepted(count, all) => replay_tables(
-            &registers, &paths, &fields, &labels, out, log, count, all, more,
-        ),
+        Err(refusal) => reply::write_refusal(out, refusal.rule.number() as u64, refusal.at as u64),
     }
 }
 
 // Whether the first bytes of an output are these; shows them where they are not.
 fn is_same<W: Write>(out: &mut W, given: &[u8], count: usize, due: &[u8]) -> io::Result<bool> {
-    let end = at_most(count, given.len());
+    let end = count.min(given.len());
     let start = &given[..end];
-    if chars::same(start, due) {
+    if start == due {
         return Ok(true);
     }
     case_io::put(out, b"got: ")?;
@@ -154,10 +118,10 @@ fn is_answer<W: Write>(
     text: &[u8],
     log: &[u8],
     answer: &[u8],
-    more: usize,
+    size: usize,
 ) -> io::Result<bool> {
     let mut given = [0u8; ROOM];
-    let count = replay(text, log, &mut given, more);
+    let count = replay(text, log, &mut given, size);
     is_same(out, &given, count, answer)
 }
 
@@ -168,6 +132,7 @@ fn is_listing<W: Write>(out: &mut W, text: &[u8], listing: &[u8]) -> io::Result<
     is_same(out, &given, count, listing)
 }
 
+// Whether the program answers the next text and log as the pack does, if there is one.
 fn run_case<R: Read, W: Write>(
     pack: &mut R,
     out: &mut W,
@@ -175,55 +140,55 @@ fn run_case<R: Read, W: Write>(
     text_room: &mut [u8],
     log_room: &mut [u8],
     answer_room: &mut [u8],
-) -> io::Result<CaseOutcome> {
+) -> io::Result<Option<bool>> {
     let text_length = case_io::read_length(pack)?;
     let log_length = case_io::read_length(pack)?;
     let answer_length = case_io::read_length(pack)?;
     let text = case_io::read_part(pack, text_length, text_room)?;
     let log = case_io::read_part(pack, log_length, log_room)?;
     let answer = case_io::read_part(pack, answer_length, answer_room)?;
-    if !text.whole || !log.whole || !answer.whole {
-        return Ok(CaseOutcome::NoCase);
-    }
-    let same = is_answer(
+    let (Some(text), Some(log), Some(answer)) = (text, log, answer) else {
+        return Ok(None);
+    };
+    let agrees = is_answer(
         out,
-        &text_room[..text.length],
-        &log_room[..log.length],
-        &answer_room[..answer.length],
-        (case % 64) as usize,
+        &text_room[..text],
+        &log_room[..log],
+        &answer_room[..answer],
+        (case % 64) as usize + 1,
     )?;
-    if same {
-        return Ok(CaseOutcome::Agrees);
+    if !agrees {
+        case_io::put_number(out, b"differs: ", case)?;
+        case_io::put(out, b"\n")?;
     }
-    case_io::put_number(out, b"differs: ", case)?;
-    case_io::put(out, b"\n")?;
-    Ok(CaseOutcome::Differs)
+    Ok(Some(agrees))
+}
+
+fn report<W: Write>(out: &mut W, cases: u64, agreed: u64) -> io::Result<()> {
+    case_io::put_number(out, b"cases=", cases)?;
+    case_io::put_number(out, b" agree=", agreed)?;
+    case_io::put(out, b"\n")
 }
 
 fn run_pack<R: Read, W: Write>(pack: &mut R, out: &mut W) -> io::Result<()> {
     let mut text_room = [0u8; ROOM];
     let mut log_room = [0u8; ROOM];
     let mut answer_room = [0u8; ROOM];
-    let mut cases = 0;
     let mut agreed: u64 = 0;
-    while cases < MOST_CASES {
+    for case in 0..MOST_CASES {
         match run_case(
             pack,
             out,
-            cases,
+            case,
             &mut text_room,
             &mut log_room,
             &mut answer_room,
         )? {
-            CaseOutcome::Agrees => agreed += 1,
-            CaseOutcome::Differs => {}
-            CaseOutcome::NoCase => break,
+            Some(agrees) => agreed += u64::from(agrees),
+            None => return report(out, case, agreed),
         }
-        cases += 1;
     }
-    case_io::put_number(out, b"cases=", cases)?;
-    case_io::put_number(out, b" agree=", agreed)?;
-    case_io::put(out, b"\n")
+    report(out, MOST_CASES, agreed)
 }
 
 // Reads a file as far as there is room.
@@ -273,7 +238,7 @@ fn run_example<F: Files, W: Write>(
         &text[..text_end],
         &log[..log_end],
         &answer[..played_end],
-        0,
+        1,
     )?;
     put_verdict(out, b" played", played)?;
     case_io::put(out, b"\n")

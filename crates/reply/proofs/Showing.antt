@@ -2,7 +2,7 @@
 use mathlib.Core.Bool.{Bool, true, false, not}
 use mathlib.Core.Path.{◌≡◌, refl, sym, ap, ◌∙◌}
 use mathlib.Core.List.{List, [], ◌∷◌, ◌++◌}
-use Prim.Native.Nat.{ℕ, zero, suc, ◌+◌, ◌<◌, ◌≤◌}
+use Prim.Native.Nat.{ℕ, ◌+◌, ◌<◌, ◌≤◌}
 use native.Mathlib.Omega.{arith}
 use lib.Dec.{leb, ltb}
 use lib.ListN.{length, take, drop, take-append-drop}
@@ -17,12 +17,11 @@ use Rattle.lines.specs.declared.Sink.{Sink}
 use Rattle.lines.specs.Text.{decimal}
 use Rattle.lines.specs.Sinks.{is_full, behind, poured, with_byte, filled, Pours}
 use Rattle.lines.proofs.Pouring.{poured-append, filled-append, pours_then}
-use Rattle.listing.specs.declared.Listed.{Listed}
-use Rattle.listing.specs.declared.Listed.TheVariants.{Refused, Written}
 use Rattle.listing.specs.Listing.{listing_of, listed, output_of}
 use Rattle.listing.proofs.Answers.{poured-fits, filled-fits}
-use Rattle.compile.specs.Compiled.{compiled, over}
-use Rattle.reply.specs.Reply.{refusal_line, shown, reply_to, shown_of, Shows}
+use Rattle.compile.specs.Compiled.{over}
+use Rattle.reply.specs.Reply.{refusal_line, shown_of, Shows}
+use Rattle.basics.specs.Judged.{Outcome, gave, barred}
 
 abbrev sink_at : ℕ → Sink
 sink_at n = record { at = n; full = false }
@@ -111,41 +110,28 @@ unfolding refusal_line
 refusal-shown number at p1 p2 p3 p4 p5 = pours_show (pours_then p1 (pours_then p2 (pours_then p3 (pours_then p4 p5))))
 
 -- the answer of a listing
-module _ (t : Tables) (before : List ℕ) {after : List ℕ} {r : Listed} (e : r ≡ listed (length before) t) (w : after ≡ output_of before (listing_of (rows_in t)) r) where
-  pub listing_refused : {n count : ℕ} {end : List ℕ} → r ≡ Refused n → Shows after end (refusal_line n 0) count → Shows before end (shown_of (listing_of (rows_in t)) (listed (length before) t)) count
+module _ (t : Tables) (before : List ℕ) {after : List ℕ} {r : Outcome ℕ} (e : r ≡ listed (length before) t) (w : after ≡ output_of before (listing_of (rows_in t)) r) where
+  pub listing_refused : {n count : ℕ} {end : List ℕ} → r ≡ barred n → Shows after end (refusal_line n 0) count → Shows before end (shown_of (listing_of (rows_in t)) (listed (length before) t)) count
   listing_refused {n} {count} {end} z s =
-      let k : after ≡ before = w ∙ ap (λ (x : Listed). output_of before (listing_of (rows_in t)) x) z in
-      let a : refusal_line n 0 ≡ shown_of (listing_of (rows_in t)) (listed (length before) t) = ap (λ (x : Listed). shown_of (listing_of (rows_in t)) x) (sym z ∙ e) in
+      let k : after ≡ before = w ∙ ap (λ (x : Outcome ℕ). output_of before (listing_of (rows_in t)) x) z in
+      let a : refusal_line n 0 ≡ shown_of (listing_of (rows_in t)) (listed (length before) t) = ap (λ (x : Outcome ℕ). shown_of (listing_of (rows_in t)) x) (sym z ∙ e) in
       rw a at (rw k at s)
 
-  written-fits : (n : ℕ) → Written n ≡ listed (length before) t → (n ≡ length (listing_of (rows_in t))) × (length (listing_of (rows_in t)) ≤ length before)
+  written-fits : (n : ℕ) → gave n ≡ listed (length before) t → (n ≡ length (listing_of (rows_in t))) × (length (listing_of (rows_in t)) ≤ length before)
   unfolding listed
   written-fits n = by (lawful t) (ltb (length before) (length (listing_of (rows_in t)))) refl
     where
       by : (a b : Bool) → ltb (length before) (length (listing_of (rows_in t))) ≡ b
-          → Written n ≡ (if not a then Refused 24 else if b then Refused 22 else Written (length (listing_of (rows_in t))))
+          → gave n ≡ (if not a then barred 24 else if b then barred 22 else gave (length (listing_of (rows_in t))))
           → (n ≡ length (listing_of (rows_in t))) × (length (listing_of (rows_in t)) ≤ length before)
-      by false b q z = absurd (let y : ◌≡◌ {A = ℕ} 0 1 = cc in omega arith)
-      by true true q z = absurd (let y : ◌≡◌ {A = ℕ} 0 1 = cc in omega arith)
+      by false b q z = cc
+      by true true q z = cc
       by true false q z = (cc, ltb-false (length before) (length (listing_of (rows_in t))) q)
 
-  pub listing_written : {n : ℕ} → r ≡ Written n → Shows before after (shown_of (listing_of (rows_in t)) (listed (length before) t)) n
+  pub listing_written : {n : ℕ} → r ≡ gave n → Shows before after (shown_of (listing_of (rows_in t)) (listed (length before) t)) n
   listing_written {n} z =
       let f : (n ≡ length (listing_of (rows_in t))) × (length (listing_of (rows_in t)) ≤ length before) = written-fits n (sym z ∙ e) in
-      let a : listing_of (rows_in t) ≡ shown_of (listing_of (rows_in t)) (listed (length before) t) = ap (λ (x : Listed). shown_of (listing_of (rows_in t)) x) (sym z ∙ e) in
+      let a : listing_of (rows_in t) ≡ shown_of (listing_of (rows_in t)) (listed (length before) t) = ap (λ (x : Outcome ℕ). shown_of (listing_of (rows_in t)) x) (sym z ∙ e) in
       rw a at
       (shows_whole {before = before} {after = after} {bs = listing_of (rows_in t)} {n = n} f.1 f.0
-      (w ∙ ap (λ (x : Listed). output_of before (listing_of (rows_in t)) x) z ∙ ap (λ (k : ℕ). listing_of (rows_in t) ++ drop k before) f.0))
-
--- an answer has room
-take_short : (n : ℕ) (xs : List ℕ) → length (take n xs) ≤ n
-take_short zero xs = omega arith
-take_short (suc n) [] = omega arith
-take_short (suc n) (x ∷ xs) = omega (arith, take_short n xs)
-
-reply_short : (room : ℕ) (text : List ℕ) → length (reply_to room text) ≤ room
-unfolding reply_to
-reply_short room text = take_short room (shown room (compiled text))
-
-pub answer_within : (text : List ℕ) {room long r : ℕ} → r ≡ length (reply_to room text) → long ≡ room → r ≤ long
-answer_within text {room} e f = omega (arith, e, f, reply_short room text)
+      (w ∙ ap (λ (x : Outcome ℕ). output_of before (listing_of (rows_in t)) x) z ∙ ap (λ (k : ℕ). listing_of (rows_in t) ++ drop k before) f.0))

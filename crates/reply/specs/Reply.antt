@@ -2,12 +2,10 @@
 use Rattle.std.specs.Prelude.{◌≡◌, List, [], ◌∷◌, ◌++◌, ℕ, ltb, length, take}
 use Rattle.chars.specs.Ascii.{bytes}
 use Rattle.std.specs.Prelude.{if◌then◌else◌}
-use Rattle.basics.specs.Judged.{Judged, fault, fine}
+use Rattle.basics.specs.Judged.{Judged, fault, fine, Outcome, gave, barred}
 use Rattle.rows.specs.Rows.{Map}
 use Rattle.lines.specs.Text.{decimal}
-use Rattle.listing.specs.Listing.{listing_of, listed}
-use Rattle.listing.specs.declared.Listed.{Listed}
-use Rattle.listing.specs.declared.Listed.TheVariants as listed
+use Rattle.listing.specs.Listing.{listing_of}
 use Rattle.compile.specs.Compiled.{compiled, over}
 
 -- the line of a refusal
@@ -24,9 +22,9 @@ unfoldable pub reply_to : ℕ → List ℕ → List ℕ
 reply_to room text = take room (shown room (compiled text))
 
 -- what is shown of rows
-abbrev pub shown_of : List ℕ → Listed → List ℕ
-shown_of bytes (listed.Refused n) = refusal_line n 0
-shown_of bytes (listed.Written n) = bytes
+abbrev pub shown_of : List ℕ → Outcome ℕ → List ℕ
+shown_of bytes (barred n) = refusal_line n 0
+shown_of bytes (gave n) = bytes
 
 -- an output that has these bytes at its start, as far as it goes, and then its old rest
 pub record Shows (before after bytes : List ℕ) (count : ℕ) : Type 0 where

@@ -8,9 +8,7 @@ ghost use Rattle.listing.specs.Listing.{listing_of, listed};
 ghost use Rattle.compile.specs.Compiled.{over};
 ghost use Rattle.reply.specs.Reply.{refusal_line, reply_to, shown_of, Shows};
 
-use compile::Compiled;
 use lines::Sink;
-use listing::Listed;
 
 // The rows that the tables of a program hold: as many as a map may have.
 pub const REGISTERS: usize = basics::REGISTER_LIMIT * basics::REGISTER_ROW_WIDTH;
@@ -46,8 +44,8 @@ fn write_listing(
     ensures { Shows out.old out.new (shown_of (listing_of (rows_in (tables registers.now paths.now fields.now labels.now))) (listed (length out.old) (tables registers.now paths.now fields.now labels.now))) result }
 {
     match listing::list(registers, paths, fields, labels, out) {
-        Listed::Refused(number) => write_refusal(out, number as u64, 0),
-        Listed::Written(count) => count,
+        Ok(count) => count,
+        Err(rule) => write_refusal(out, rule.number() as u64, 0),
     }
 }
 
@@ -61,13 +59,13 @@ pub fn reply(text: &[u8], out: &mut [u8]) -> usize
     let mut fields = [0u64; FIELDS];
     let mut labels = [0u8; LABELS];
     match compile::compile(text, &mut registers, &mut paths, &mut fields, &mut labels) {
-        Compiled::Refused(number, place) => write_refusal(out, number as u64, place.at as u64),
-        Compiled::Accepted(count, all) => write_listing(
-            &registers[0..count * basics::REGISTER_ROW_WIDTH],
-            &paths[0..count * basics::PATH_ROW_WIDTH],
-            &fields[0..all * basics::FIELD_ROW_WIDTH],
-            &labels[0..all * basics::NAME_WIDTH],
+        Ok(counts) => write_listing(
+            &registers[..counts.registers * basics::REGISTER_ROW_WIDTH],
+            &paths[..counts.registers * basics::PATH_ROW_WIDTH],
+            &fields[..counts.fields * basics::FIELD_ROW_WIDTH],
+            &labels[..counts.fields * basics::NAME_WIDTH],
             out,
         ),
+        Err(refusal) => write_refusal(out, refusal.rule.number() as u64, refusal.at as u64),
     }
 }

@@ -5,8 +5,6 @@ use mathlib.Core.List.{List, [], ◌∷◌}
 use Prim.Native.Nat.{ℕ, suc, ◌+◌, ◌*◌}
 use native.Mathlib.Omega.{arith}
 use lib.ListN.{length, length-append}
-use Rattle.basics.specs.declared.Given.{Given}
-use Rattle.basics.specs.declared.Given.TheVariants.{Nothing, Number}
 use Rattle.fields.specs.declared.FieldAt.{FieldAt}
 use Rattle.basics.specs.Slices.{cell_of}
 use Rattle.basics.specs.Given.{flag_of, number_of, given_from}
@@ -19,16 +17,17 @@ use Rattle.row_laws.specs.Sound.{SoundField}
 use Rattle.rows.proofs.Padded.{length-padded}
 use Rattle.row_laws.proofs.Cells.{Stands, stands_head, stands_cell, stands_at, stands_left, stands_right}
 use Rattle.row_laws.proofs.Names.{name_stands, name_read_lem}
+use Rattle.std.specs.Prelude.{Option, Some, None}
 
 -- a reset in two cells
-given_read : (g : Given) → given_from (flag_of g) (number_of g) ≡ g
-given_read Nothing = refl
-given_read (Number n) = refl
+given_read : (g : Option ℕ) → given_from (flag_of g) (number_of g) ≡ g
+given_read None = refl
+given_read (Some n) = refl
 
-form_stands : (g : Given) → is_reset_form (flag_of g) (number_of g) ≡ true
+form_stands : (g : Option ℕ) → is_reset_form (flag_of g) (number_of g) ≡ true
 unfolding is_reset_form
-form_stands Nothing = refl
-form_stands (Number n) = refl
+form_stands None = refl
+form_stands (Some n) = refl
 
 -- a row, cell by cell
 record FieldStands (t : List ℕ) (at : ℕ) (f : FieldAt) : Type 0 where

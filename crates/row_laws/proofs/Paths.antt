@@ -6,8 +6,6 @@ use Prim.Native.Nat.{ℕ, zero, suc, ◌+◌, ◌-◌, ◌*◌, ◌<◌, ◌≤�
 use native.Mathlib.Omega.{arith}
 use lib.ListN.{length}
 use borrow.Author.Tests.{eq-eqb, ne_eqb, le-leb, lt-leb, lt-ltb, le-ltb}
-use Rattle.basics.specs.declared.Given.{Given}
-use Rattle.basics.specs.declared.Given.TheVariants.{Nothing, Number}
 use Rattle.basics.specs.Slices.{cell_of}
 use Rattle.rows.specs.Rows.{Step, padded, index_code, indices, name_cell, name_cells}
 use Rattle.rows.specs.Lawful.{is_path_cell, are_names, is_index, are_indices}
@@ -18,6 +16,7 @@ use Rattle.row_laws.specs.Sound.{SoundIndex, no_index, index, SoundStep}
 use Rattle.rows.proofs.Padded.{length-padded}
 use Rattle.row_laws.proofs.Cells.{Stands, stands_head, stands_tail, stands_as, stands_left, stands_right, padded-append, padded_none, zeros_stand}
 use Rattle.row_laws.proofs.Names.{name_stands, name_read_lem}
+use Rattle.std.specs.Prelude.{Option, Some, None}
 
 -- the cells of a path, the first and the others
 module _ {t : List ℕ} {at : ℕ} (n : ℕ) where
@@ -60,9 +59,9 @@ names_stand {t} {at = at} depth k (suc n) (all_more {x = x} {xs = path} p ps) h 
     (names_stand {at = at + name_width} depth (suc k) n ps (omega arith) (omega (arith, e)) (name_others n x.name (name_cells path) s))
 
 -- the indices
-index_low : (g : Given) → SoundIndex g → index_code g ≤ array_limit
-index_low Nothing no_index = omega arith
-index_low (Number k) (index h) = omega (arith, h)
+index_low : (g : Option ℕ) → SoundIndex g → index_code g ≤ array_limit
+index_low None no_index = omega arith
+index_low (Some k) (index h) = omega (arith, h)
 
 zeros_indices : {t : List ℕ} {at : ℕ} (depth k n : ℕ) → depth ≤ k → Stands t at (padded n []) → are_indices t depth at k n ≡ true
 unfolding padded are_indices is_index
@@ -79,9 +78,9 @@ indices_stand {t} {at = at} depth k (suc n) (all_more {x = x} {xs = path} p ps) 
     (indices_stand depth (suc k) n ps (omega arith) (omega (arith, e)) (stands_tail s))
 
 -- the steps, read back
-index_read : (g : Given) → index_from (index_code g) ≡ g
-index_read Nothing = refl
-index_read (Number k) = let z : suc k - 1 ≡ k = omega arith in rw (ne_eqb (suc k) 0 (λ q. omega (arith, q)), z)
+index_read : (g : Option ℕ) → index_from (index_code g) ≡ g
+index_read None = refl
+index_read (Some k) = let z : suc k - 1 ≡ k = omega arith in rw (ne_eqb (suc k) 0 (λ q. omega (arith, q)), z)
 
 pub steps_read : {t u : List ℕ} {at place : ℕ} (n m : ℕ) {path : List Step} → All SoundStep path → length path ≤ n → length path ≤ m → Stands t at (padded n (indices path))
     → Stands u place (padded (m * name_width) (name_cells path)) → steps_from t u at place (length path) ≡ path

@@ -1,11 +1,9 @@
 -- A map whose rows are lawful, said of the map itself: names, ranges, and the rules 12 to 15, 18 and 20.
-use Rattle.std.specs.Prelude.{◌≡◌, true, List, [], ◌∷◌, ℕ, ◌+◌, ◌/◌, ◌%◌, ◌<◌, ◌≤◌, length}
+use Rattle.std.specs.Prelude.{◌≡◌, true, List, [], ◌∷◌, ℕ, ◌+◌, ◌/◌, ◌%◌, ◌<◌, ◌≤◌, length, Option, Some, None}
 use Rattle.chars.specs.Ascii.{is_letter, is_name_byte}
 use Rattle.chars.specs.Run.{every}
 use Rattle.fields.specs.Codes.{is_width}
 use Rattle.basics.specs.All.{All}
-use Rattle.basics.specs.declared.Given.{Given}
-use Rattle.basics.specs.declared.Given.TheVariants.{Nothing, Number}
 use Rattle.basics.specs.Limits.{nest_limit, register_limit, field_limit, array_limit, address_end}
 use Rattle.rows.specs.Rows.{Step, Field, Entry, Map}
 use Rattle.rows.specs.Lawful.{is_ranged, is_sound_field}
@@ -15,9 +13,9 @@ pub data SoundName : List ℕ → Type 0 where
   sound_name : {b : ℕ} {bs : List ℕ} → is_letter b ≡ true → every is_name_byte bs ≡ true → length bs ≤ 30 → SoundName (b ∷ bs)
 
 -- "names with indices in range"
-pub data SoundIndex : Given → Type 0 where
-  no_index : SoundIndex Nothing
-  index : {k : ℕ} → k < array_limit → SoundIndex (Number k)
+pub data SoundIndex : Option ℕ → Type 0 where
+  no_index : SoundIndex None
+  index : {k : ℕ} → k < array_limit → SoundIndex (Some k)
 
 pub record SoundStep (s : Step) : Type 0 where
   pub name : SoundName s.name

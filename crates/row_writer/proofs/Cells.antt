@@ -9,13 +9,11 @@ use Rattle.identifiers.specs.Names.{bytes_of}
 use Rattle.register_log.specs.Log.{log_width, depth_bound, place_bound, head_address, head_row, head_depth, step_start, step_end, step_index}
 use Rattle.basics.specs.Limits.{nest_limit, definition_limit, register_row_width, name_width}
 use Rattle.basics.specs.Slices.{cell_of, written}
-use Rattle.basics.specs.Given.{flag_of, number_of}
 use Rattle.cells.specs.Cells.{component_in}
-use Rattle.fields.specs.declared.FieldAt.{FieldAt}
 use Rattle.fields.specs.declared.Register.{Register}
 use Rattle.components.specs.declared.Component.{Component}
 use Rattle.rows.proofs.Padded.{length-padded}
-use Rattle.rows.specs.Rows.{padded, name_cell, field_cells}
+use Rattle.rows.specs.Rows.{padded, name_cell}
 use Rattle.row_writer.specs.Entries.{widths_of}
 use Rattle.row_writer.specs.Writes.{names_in, indices_in, numbers_in}
 
@@ -129,20 +127,6 @@ path_put t at name others d e f =
     let n : at + length (name_cell name) ≡ at + 32 = omega (arith, length-padded 32 name) in
     f ∙ ap (λ (s : List ℕ). written s (at + 32) others) (e ∙ ap (λ (x : List ℕ). written t at (name_cell x)) d)
     ∙ ap (λ (n : ℕ). written (written t at (name_cell name)) n others) (sym n) ∙ sym (written-append t at (name_cell name) others)
-
--- a field's row, cell by cell
-pub field_put : (t : List ℕ) (i : ℕ) (f : FieldAt) {a b : ℕ} {t1 t2 t3 t4 t5 t6 t7 t8 : List ℕ} → a ≡ flag_of f.values.reset → b ≡ number_of f.values.reset
-    → t1 ≡ set t i f.low.0 → t2 ≡ set t1 (i + 1) f.high.0 → t3 ≡ set t2 (i + 2) f.values.sw → t4 ≡ set t3 (i + 3) f.values.hw
-    → t5 ≡ set t4 (i + 4) f.values.onread → t6 ≡ set t5 (i + 5) f.values.onwrite → t7 ≡ set t6 (i + 6) a → t8 ≡ set t7 (i + 7) b → t8 ≡ written t i (field_cells f)
-unfolding written field_cells
-field_put t i f p q e1 e2 e3 e4 e5 e6 e7 e8 =
-    let n2 : i + 1 + 1 ≡ i + 2 = omega arith in
-    let n3 : i + 2 + 1 ≡ i + 3 = omega arith in
-    let n4 : i + 3 + 1 ≡ i + 4 = omega arith in
-    let n5 : i + 4 + 1 ≡ i + 5 = omega arith in
-    let n6 : i + 5 + 1 ≡ i + 6 = omega arith in
-    let n7 : i + 6 + 1 ≡ i + 7 = omega arith in
-    rw (n2, n3, n4, n5, n6, n7, ← p, ← q, e8, e7, e6, e5, e4, e3, e2, e1)
 
 -- a register's row, cell by cell
 six_put : (t : List ℕ) (i : ℕ) (a b c d e f : ℕ) (xs : List ℕ) {t1 t2 t3 t4 t5 t6 t7 : List ℕ} → t1 ≡ set t i a → t2 ≡ set t1 (i + 1) b → t3 ≡ set t2 (i + 2) c → t4 ≡ set t3 (i + 3) d

@@ -1,14 +1,13 @@
 -- Laws of a register's fields: those of the instances that are left follow the ones that are written.
 use mathlib.Core.Path.{◌≡◌, refl, sym, ap, ◌∙◌}
 use mathlib.Core.List.{List, [], ◌∷◌, ◌++◌, append_assoc}
-use Prim.Native.Nat.{ℕ, suc, ◌+◌, ◌-◌, ◌*◌, ◌^◌, ◌<◌, ◌≤◌}
+use Prim.Native.Nat.{ℕ, suc, ◌+◌, ◌-◌, ◌*◌, ◌<◌, ◌≤◌}
 use native.Mathlib.Omega.{arith}
 use lib.ListN.{length, length-append}
 use Rattle.parts.specs.declared.Name.{Name}
 use Rattle.parts.specs.declared.Instance.{Instance}
 use Rattle.suffixes.specs.Suffixes.{instance_fault}
 use Rattle.basics.specs.Limits.{field_limit, field_row_width, name_width, index_bound, sum_bound}
-use Rattle.basics.specs.declared.Fault.TheVariants.{None}
 use Rattle.components.specs.Components.{kind_of}
 use Rattle.fields.specs.declared.BitPlace.{BitPlace}
 use Rattle.fields.specs.declared.FieldAt.{FieldAt}
@@ -17,26 +16,24 @@ use Rattle.basics.specs.Slices.{cell_of, written}
 use Rattle.cells.specs.Cells.{entries_at, component_in, first_in, count_in, instance_room, size}
 use Rattle.cells.specs.Definitions.{Child, Definition, definition_of}
 use Rattle.cells.specs.Decoded.{child_in}
-use Rattle.cells.specs.declared.ChildReading.{ChildReading}
-use Rattle.cells.specs.declared.ChildReading.TheVariants as child_reading
 use Rattle.cells.proofs.Laws.{child_entry}
 use Rattle.cells.specs.Relation.{Block}
 use Rattle.cells.proofs.Laws.{written-length}
 use Rattle.closing_rules.specs.Registers.{placement, bit_above, first_bit}
 use Rattle.closing_rules.specs.Decoded.{placed_as, top_of}
 use Rattle.closing_rules.proofs.Laws.{placed_top, placed-sound}
-use Rattle.closing_rules.specs.declared.Placed.{Placed}
-use Rattle.closing_rules.specs.declared.Placed.TheVariants as placed
 use Rattle.definition_laws.specs.Sensible.{ChildrenFit}
 use Rattle.rows.specs.Rows.{Field, name_cell, field_cells, field_run, label_run}
 use Rattle.sizes.specs.declared.Extent.{Extent}
 use Rattle.sizes.specs.Ready.{known, Ready}
 use Rattle.sizes.proofs.Rows.{RowFits}
-use Rattle.sizes.proofs.Laws.{ready_is_row, ready_row, ready_block, ready_count, ready_within, Ahead, ahead_of, none_left}
+use Rattle.sizes.proofs.Laws.{fine_parts, ready_is_row, ready_row, ready_block, ready_count, ready_within, Ahead, ahead_of, none_left}
 use Rattle.row_writer.specs.Entries.{bytes_in, with_field, row_fields}
 use Rattle.row_writer.specs.Writes.{RunWrites, fields_in}
 use Rattle.rows.proofs.Padded.{length-padded}
 use Rattle.row_writer.proofs.Cells.{written-append}
+use Rattle.basics.specs.Judged.{Accepted, Judged, fine, fault}
+use Rattle.std.specs.Prelude.{Option, Some, None}
 
 -- the rows of fields behind those of others
 cells_length : (f : FieldAt) → length (field_cells f) ≡ 8
@@ -94,11 +91,11 @@ nothing_behind : (xs : List ℕ) → xs ≡ xs ++ []
 nothing_behind [] = refl
 nothing_behind (x ∷ xs) = ap (λ (ys : List ℕ). x ∷ ys) (nothing_behind xs)
 
-module _ (f l : List ℕ) (j : ℕ) (text : List ℕ) (name : Name) (p : Placed) where
-  pub placed_other : p ≡ placed.Other → RunWrites f f l l j (with_field (bytes_in text name) p []) j
+module _ (f l : List ℕ) (j : ℕ) (text : List ℕ) (name : Name) (p : Option FieldAt) where
+  pub placed_other : p ≡ None → RunWrites f f l l j (with_field (bytes_in text name) p []) j
   placed_other e = rw e (run_none f l j)
 
-  pub placed_field : {at : FieldAt} {f1 l1 label : List ℕ} → p ≡ placed.Field at → f1 ≡ written f (j * field_row_width) (field_cells at) → label ≡ bytes_in text name → l1 ≡ written l (j * name_width) (name_cell label)
+  pub placed_field : {at : FieldAt} {f1 l1 label : List ℕ} → p ≡ Some at → f1 ≡ written f (j * field_row_width) (field_cells at) → label ≡ bytes_in text name → l1 ≡ written l (j * name_width) (name_cell label)
       → RunWrites f f1 l l1 j (with_field (bytes_in text name) p []) (j + 1)
   unfolding field_run label_run
   placed_field {at} {f1} {l1} {label} e a g b =
@@ -111,23 +108,23 @@ module _ (f l : List ℕ) (j : ℕ) (text : List ℕ) (name : Name) (p : Placed)
       rw e w
 
 -- the fields of the instances that are left, one first
-with_front : (name : List ℕ) (p : Placed) (fs : List Field) → with_field name p fs ≡ with_field name p [] ++ fs
-with_front name (placed.Field f) fs = refl
-with_front name placed.Other fs = refl
+with_front : (name : List ℕ) (p : Option FieldAt) (fs : List Field) → with_field name p fs ≡ with_field name p [] ++ fs
+with_front name (Some f) fs = refl
+with_front name None fs = refl
 
-with_few : (name : List ℕ) (p : Placed) → length (with_field name p []) ≤ 1
-with_few name (placed.Field f) = omega arith
-with_few name placed.Other = omega arith
+with_few : (name : List ℕ) (p : Option FieldAt) → length (with_field name p []) ≤ 1
+with_few name (Some f) = omega arith
+with_few name None = omega arith
 
-above_low : (p : Placed) (next : BitPlace) → top_of p ≤ next.0 + 63 → (bit_above p next).0 ≤ next.0 + 64
-above_low (placed.Field f) next h = omega arith
-above_low placed.Other next h = omega arith
+above_low : (p : Option FieldAt) (next : BitPlace) → top_of p ≤ next.0 + 63 → (bit_above p next).0 ≤ next.0 + 64
+above_low (Some f) next h = omega arith
+above_low None next h = omega arith
 
-fields_more : (text : List ℕ) (table : List Definition) (next : BitPlace) (c : Child) (cs : List Child) {p : Placed} → p ≡ placement (definition_of table c.type).component next c.instance
+fields_more : (text : List ℕ) (table : List Definition) (next : BitPlace) (c : Child) (cs : List Child) {p : Option FieldAt} → p ≡ placement (definition_of table c.type).component next c.instance
     → row_fields text table next (c ∷ cs) ≡ with_field (bytes_in text c.instance.name) p [] ++ row_fields text table (bit_above p next) cs
 unfolding row_fields
 fields_more text table next c cs {p} e =
-    ap (λ (q : Placed). with_field (bytes_in text c.instance.name) q (row_fields text table (bit_above q next) cs)) (sym e)
+    ap (λ (q : Option FieldAt). with_field (bytes_in text c.instance.name) q (row_fields text table (bit_above q next) cs)) (sym e)
     ∙ with_front (bytes_in text c.instance.name) p (row_fields text table (bit_above p next) cs)
 
 fields_none : (text : List ℕ) (table : List Definition) (next : BitPlace) → row_fields text table next [] ≡ []
@@ -150,7 +147,6 @@ pub record Running (text t : List ℕ) (e : Extent) (row : ℕ) (f f1 l l1 : Lis
   pub same : done ++ row_fields text (known text t e) next rest ≡ fields_in text t e row
 
 pub record RunWriting (text t : List ℕ) (row : ℕ) (f f1 l l1 : List ℕ) (first to i : ℕ) (next : BitPlace) (j : ℕ) : Type 0 where
-  pub high : to ≤ size
   pub bits : next.0 + 64 * (to - i) ≤ 64 * size
   pub few : j + (to - i) ≤ field_limit + size
   pub fields : length f1 ≡ length f
@@ -163,7 +159,6 @@ module _ (text t : List ℕ) (row : ℕ) (f l : List ℕ) (first : ℕ) where
   runs_start {e} {from} {to} ready low h p q =
       let w : first_in t row + count_in t row ≤ instance_room = ready_within text t e row ready low in
       record {
-        high = omega (arith, p, q, w);
         bits = omega (arith, p, q, w);
         few = omega (arith, h, p, q, w);
         fields = refl;
@@ -199,24 +194,18 @@ module _ (text t : List ℕ) (row : ℕ) {f f1 l l1 : List ℕ} {first to i : �
   runs_low = omega (arith, s.few)
 
   module _ (h : i < to) where
-    pub runs_steps : i + 1 < 2 ^ 64
-    runs_steps = omega (arith, h, s.high)
-
-    pub runs_falls : to - (i + 1) < to - i
-    runs_falls = omega (arith, h)
-
-    pub runs_top : (d : Component) (it : Instance) {p : Placed} → p ≡ placed_as d next it → top_of p < sum_bound
+    pub runs_top : (d : Component) (it : Instance) {p : Option FieldAt} → p ≡ placed_as d next it → top_of p < sum_bound
     runs_top d it o = rw o (omega (arith, s.bits, placed_top d next it))
 
-    module _ {y : ChildReading} (r : y ≡ child_in text (cell_of t i)) where
-      pub runs_stop : {e : Extent} {n q : ℕ} → Ready text t e → row < e.rows → y ≡ child_reading.Refused n q → RunWrites f f1 l l1 first (fields_in text t e row) j
+    module _ {y : Judged (ℕ × Instance)} (r : y ≡ child_in text (cell_of t i)) where
+      pub runs_stop : {e : Extent} {n q : ℕ} → Ready text t e → row < e.rows → y ≡ fault n q → RunWrites f f1 l l1 first (fields_in text t e row) j
       runs_stop {e} ready low g =
           let v : Running text t e row f f1 l l1 first to i next j = s.each e ready low in
           let ahead : Ahead text t v.fits.before (definition_of (known text t e) row).component i v.rest = ahead_of h v.until v.block v.children in
-          let w : y ≡ child_reading.Done ahead.child.type ahead.child.instance = r ∙ child_entry text (cell_of t i) ahead.entry in
-          absurd (let z : ◌≡◌ {A = ℕ} 0 1 = cc in omega arith)
+          let w : y ≡ fine (ahead.child.type, ahead.child.instance) = r ∙ child_entry text (cell_of t i) ahead.entry in
+          absurd cc
 
-      module _ {it : Instance} {k : ℕ} {d : Component} {a : Placed} (g : y ≡ child_reading.Done k it) (m : d ≡ component_in t k) (b : a ≡ placed_as d next it) where
+      module _ {it : Instance} {k : ℕ} {d : Component} {a : Option FieldAt} (g : y ≡ fine (k, it)) (m : d ≡ component_in t k) (b : a ≡ placed_as d next it) where
         -- the first of the instances that are left, as a field
         module _ (e : Extent) (ready : Ready text t e) (low : row < e.rows) where
           at_run : Running text t e row f f1 l l1 first to i next j
@@ -225,14 +214,14 @@ module _ (text t : List ℕ) (row : ℕ) {f f1 l l1 : List ℕ} {first to i : �
           ahead_run : Ahead text t at_run.fits.before (definition_of (known text t e) row).component i at_run.rest
           ahead_run = ahead_of h at_run.until at_run.block at_run.children
 
-          run_child : y ≡ child_reading.Done ahead_run.child.type ahead_run.child.instance
+          run_child : y ≡ fine (ahead_run.child.type, ahead_run.child.instance)
           run_child = r ∙ child_entry text (cell_of t i) ahead_run.entry
 
           run_instance : it ≡ ahead_run.child.instance
-          run_instance = let w = run_child in cc
+          run_instance = (fine_parts (sym g ∙ run_child)).1
 
           run_type : k ≡ ahead_run.child.type
-          run_type = let w = run_child in cc
+          run_type = (fine_parts (sym g ∙ run_child)).0
 
           run_before : ahead_run.child.type < row
           run_before = omega (arith, ahead_run.fits.before, at_run.fits.count)
@@ -240,7 +229,7 @@ module _ (text t : List ℕ) (row : ℕ) {f f1 l l1 : List ℕ} {first to i : �
           run_component : d ≡ (definition_of (known text t e) ahead_run.child.type).component
           run_component = m ∙ ap (component_in t) run_type ∙ (ready_is_row text t e ahead_run.child.type ready (omega (arith, run_before, low))).component
 
-          run_sound : instance_fault (kind_of d) it ≡ None
+          run_sound : instance_fault (kind_of d) it ≡ Accepted
           run_sound =
               let u : definition_of at_run.fits.before ahead_run.child.type ≡ definition_of (known text t e) ahead_run.child.type = at_run.fits.rows ahead_run.child.type run_before in
               let z : (definition_of at_run.fits.before ahead_run.child.type).component ≡ d = ap (λ (q : Definition). q.component) u ∙ sym run_component in
@@ -254,7 +243,6 @@ module _ (text t : List ℕ) (row : ℕ) {f f1 l l1 : List ℕ} {first to i : �
             → RunWriting text t row f f2 l l2 first to (i + 1) up j1
         runs_next {f2} {l2} {j1} {up} w z =
             record {
-              high = s.high;
               bits = let q = above_low a next (rw b (placed_top d next it)) in let v : up.0 ≡ (bit_above a next).0 = ap (λ (b : BitPlace). b.0) z in omega (arith, q, v, s.bits, h);
               few = omega (arith, w.next, with_few (bytes_in text it.name) a, s.few, h);
               fields = run_fields_lem w ∙ s.fields;

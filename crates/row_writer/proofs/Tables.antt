@@ -2,18 +2,17 @@
 use mathlib.Core.Bool.{Bool, true, false, ◌||◌}
 use mathlib.Core.Path.{◌≡◌, refl, sym, ap, ◌∙◌}
 use mathlib.Core.List.{List, [], ◌∷◌, ◌++◌}
-use Prim.Native.Nat.{ℕ, suc, ◌+◌, ◌-◌, ◌*◌, ◌^◌, ◌<◌, ◌≤◌}
+use Prim.Native.Nat.{ℕ, suc, ◌+◌, ◌-◌, ◌*◌, ◌<◌, ◌≤◌}
 use native.Mathlib.Omega.{arith}
 use lib.Dec.{ltb}
 use lib.ListN.{length, drop, drop_of_length-le}
 use lib.Seq.{drop-cons}
 use borrow.Author.Tests.{ltb-false}
 use Rattle.register_log.specs.Log.{log_width, head_row}
-use Rattle.std.specs.Prelude.{if◌then◌else◌}
+use Rattle.std.specs.Prelude.{if◌then◌else◌, Option, Some, None}
 use Rattle.chars.proofs.Laws.{or_right}
 use Rattle.parts.specs.declared.Name.{Name}
-use Rattle.basics.specs.Judged.{first_of}
-use Rattle.basics.specs.declared.Fault.TheVariants.{None}
+use Rattle.basics.specs.Judged.{first_of, Accepted}
 use Rattle.fields.specs.declared.BitPlace.{BitPlace}
 use Rattle.components.proofs.Laws.{first_sound, pass_test, pass_on}
 use Rattle.basics.specs.Slices.{cell_of, written}
@@ -21,8 +20,6 @@ use Rattle.cells.specs.Cells.{component_in}
 use Rattle.cells.specs.Definitions.{Child, Definition, definition_of}
 use Rattle.cells.proofs.Laws.{written-length}
 use Rattle.closing_rules.specs.Registers.{placement, bit_above, first_bit}
-use Rattle.closing_rules.specs.declared.Placed.{Placed}
-use Rattle.closing_rules.specs.declared.Placed.TheVariants as placed
 use Rattle.basics.specs.Limits.{nest_limit, register_limit, field_limit, definition_limit, register_row_width, field_row_width, name_width, path_row_width}
 use Rattle.rows.specs.Rows.{Field, Entry, name_cell, indices, name_cells, register_cells, path_cells, field_run, label_run, register_table, path_table, field_table, label_table}
 use Rattle.sizes.specs.declared.Extent.{Extent}
@@ -43,6 +40,7 @@ use Rattle.rows.proofs.Padded.{length-padded}
 use Rattle.row_writer.proofs.Cells.{written-append, one_more}
 use Rattle.row_writer.proofs.Runs.{fields_length, labels_length, run_fields_lem, run_labels}
 use Rattle.row_writer.proofs.Paths.{log_names, log_numbers}
+use Rattle.fields.specs.declared.FieldAt.{FieldAt}
 
 -- a run of cells, and what is left behind it
 pub written_on : (t : List ℕ) (i : ℕ) (xs ys : List ℕ) {j n : ℕ} {u : List ℕ} → u ≡ written t i xs → length xs ≡ n → j ≡ i + n → written u j ys ≡ written t i (xs ++ ys)
@@ -51,15 +49,15 @@ written_on t i xs ys {j} {n} {u} e l k =
     ap (λ (s : List ℕ). written s j ys) e ∙ ap (λ (n : ℕ). written (written t i xs) n ys) m ∙ sym (written-append t i xs ys)
 
 -- fields of instances: at most as many
-with_count : (name : List ℕ) (p : Placed) (fs : List Field) → length (with_field name p fs) ≤ suc (length fs)
-with_count name (placed.Field f) fs = omega arith
-with_count name placed.Other fs = omega arith
+with_count : (name : List ℕ) (p : Option FieldAt) (fs : List Field) → length (with_field name p fs) ≤ suc (length fs)
+with_count name (Some f) fs = omega arith
+with_count name None fs = omega arith
 
 pub fields_few : (text : List ℕ) (table : List Definition) (next : BitPlace) (cs : List Child) → length (row_fields text table next cs) ≤ length cs
 unfolding row_fields
 fields_few text table next [] = omega arith
 fields_few text table next (c ∷ cs) =
-    let p : Placed = placement (definition_of table c.type).component next c.instance in
+    let p : Option FieldAt = placement (definition_of table c.type).component next c.instance in
     omega (arith, with_count (bytes_in text c.instance.name) p (row_fields text table (bit_above p next) cs), fields_few text table (bit_above p next) cs)
 
 -- the instances of the definitions of some registers
@@ -74,7 +72,7 @@ held_add table v vs true fields = omega arith
 held_add table v vs false fields = refl
 
 -- "4,096 fields"
-pub few_held : (table : List Definition) (registers fields : ℕ) (vs : List Visit) → too_many table registers fields vs ≡ None → fields ≤ field_limit → fields + held_by table (registers_among table vs) ≤ field_limit
+pub few_held : (table : List Definition) (registers fields : ℕ) (vs : List Visit) → too_many table registers fields vs ≡ Accepted → fields ≤ field_limit → fields + held_by table (registers_among table vs) ≤ field_limit
 unfolding too_many registers_among held_by
 few_held table registers fields [] f h = omega arith
 few_held table registers fields (v ∷ vs) f h =
@@ -113,7 +111,7 @@ pub writing_start : (text t s log : List ℕ) (e : Extent) (row count : ℕ) (ti
 writing_start text t s log e row count title r p f l c n =
     let table : List Definition = known text t e in
     let vs : List Visit = elements_of text t e row in
-    let a : too_many table 0 0 vs ≡ None = first_sound (too_many table 0 0 vs) (first_of (too_close vs) (misplaced table (all_shapes text t e) vs)) c.sound in
+    let a : too_many table 0 0 vs ≡ Accepted = first_sound (too_many table 0 0 vs) (first_of (too_close vs) (misplaced table (all_shapes text t e) vs)) c.sound in
     record {
       charted = c;
       whole = n;
@@ -212,12 +210,6 @@ module _ (text t s log : List ℕ) (e : Extent) (row count : ℕ) (title : Name)
 
     pub writing_low : i ≤ register_limit
     writing_low = omega (arith, below, w.charted.few)
-
-    pub writing_steps : i + 1 < 2 ^ 64
-    writing_steps = omega (arith, writing_low)
-
-    pub writing_falls : count - (i + 1) < count - i
-    writing_falls = omega (arith, h)
 
     seen : RegisterSeen text t e (visit_at (registers_of text t e row) i)
     seen = all_at no_visit i (registers_seen text t e row w.charted.shaped.ready w.charted.low w.charted.sound) below

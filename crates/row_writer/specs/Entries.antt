@@ -1,5 +1,5 @@
 -- The rows of a text's registers: "the registers, addresses, fields .. are those that the rules give".
-use Rattle.std.specs.Prelude.{List, [], ◌∷◌, ℕ}
+use Rattle.std.specs.Prelude.{List, [], ◌∷◌, ℕ, Option, Some, None}
 use Rattle.parts.specs.declared.Name.{Name}
 use Rattle.identifiers.specs.Names.{bytes_of}
 use Rattle.fields.specs.Fields.{standard_register}
@@ -9,10 +9,9 @@ use Rattle.components.specs.declared.Component.{Component}
 use Rattle.components.specs.declared.Component.TheVariants as component
 use Rattle.cells.specs.Definitions.{Child, Definition, definition_of}
 use Rattle.closing_rules.specs.Registers.{placement, bit_above, first_bit}
-use Rattle.closing_rules.specs.declared.Placed.{Placed}
-use Rattle.closing_rules.specs.declared.Placed.TheVariants as placed
 use Rattle.rows.specs.Rows.{Step, Field, Entry}
 use Rattle.map_rules.specs.Visits.{PathStep, Visit}
+use Rattle.fields.specs.declared.FieldAt.{FieldAt}
 
 -- a name's bytes
 abbrev pub bytes_in : List ℕ → Name → List ℕ
@@ -22,9 +21,9 @@ unfoldable pub steps_of : List ℕ → List PathStep → List Step
 steps_of text [] = []
 steps_of text (s ∷ path) = record { name = bytes_in text s.name; index = s.index } ∷ steps_of text path
 
-abbrev pub with_field : List ℕ → Placed → List Field → List Field
-with_field name (placed.Field f) fs = record { name = name; at = f } ∷ fs
-with_field name placed.Other fs = fs
+abbrev pub with_field : List ℕ → Option FieldAt → List Field → List Field
+with_field name (Some f) fs = record { name = name; at = f } ∷ fs
+with_field name None fs = fs
 
 -- "Fields come as declared", the first from the bit `next` on
 unfoldable pub row_fields : List ℕ → List Definition → BitPlace → List Child → List Field

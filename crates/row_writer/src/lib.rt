@@ -12,8 +12,6 @@ ghost use Rattle.overlaps.specs.Charted.{Charted};
 ghost use Rattle.row_writer.specs.Entries.{bytes_in, with_field, widths_of};
 ghost use Rattle.row_writer.specs.Writes.{names_in, indices_in, numbers_in, RunWrites, fields_in, entries_in};
 
-use cells::ChildReading;
-use closing_rules::Placed;
 use components::Component;
 use fields::{BitPlace, FieldAt, Register};
 use parts::Name;
@@ -33,10 +31,8 @@ fn write_name(names: &mut [u8], at: usize, name: &[u8])
     requires { at ≤ sum_bound }
     ensures { names.new ≡ written names.old at (name_cell name.now) }
 {
-    let mut k = 0;
-    while k < basics::NAME_WIDTH {
+    for k in 0..basics::NAME_WIDTH {
         put_byte(names, at + k, chars::byte_at(name, k));
-        k += 1;
     }
 }
 
@@ -45,38 +41,26 @@ fn write_steps(text: &[u8], log: &[u64], steps: usize, paths: &mut [u8], at: usi
     requires { (steps ≤ index_bound) × (at ≤ index_bound) }
     ensures { paths.new ≡ written paths.old at (names_in text.now log.now steps nest_limit) }
 {
-    let mut k = 0;
-    while k < basics::NEST_LIMIT {
+    for k in 0..basics::NEST_LIMIT {
         let step = basics::cell(log, steps + k);
         let start = register_log::step_start(step);
         let end = register_log::step_end(step);
-        write_name(
-            paths,
-            at + k * basics::NAME_WIDTH,
-            identifiers::bytes_of(text, start, end),
-        );
-        k += 1;
+        let name = identifiers::bytes_of(text, start, end);
+        write_name(paths, at + k * basics::NAME_WIDTH, name);
     }
 }
 
 // Writes a path's row: the map's name, then the path of the log.
+#[tactic(auto, using(crate::proofs::Cells::path_put))]
 fn write_path(text: &[u8], log: &[u64], i: usize, title: Name, paths: &mut [u8])
     requires { i ≤ register_limit }
     ensures { paths.new ≡ written paths.old (i * path_row_width) (name_cell (bytes_in text.now title) ++ names_in text.now log.now (i * log_width + 1) nest_limit) }
 {
     let at = i * basics::PATH_ROW_WIDTH;
-    write_name(
-        paths,
-        at,
-        identifiers::bytes_of(text, title.start, title.end),
-    );
-    write_steps(
-        text,
-        log,
-        i * register_log::LOG_WIDTH + 1,
-        paths,
-        at + basics::NAME_WIDTH,
-    );
+    let name = identifiers::bytes_of(text, title.start, title.end);
+    write_name(paths, at, name);
+    let steps = i * register_log::LOG_WIDTH + 1;
+    write_steps(text, log, steps, paths, at + basics::NAME_WIDTH);
 }
 
 // Writes the indices of a path of the log: 8 numbers.
@@ -84,11 +68,9 @@ fn write_indices(log: &[u64], steps: usize, registers: &mut [u64], at: usize)
     requires { (steps ≤ index_bound) × (at ≤ index_bound) }
     ensures { registers.new ≡ written registers.old at (indices_in log.now steps nest_limit) }
 {
-    let mut k = 0;
-    while k < basics::NEST_LIMIT {
+    for k in 0..basics::NEST_LIMIT {
         let step = basics::cell(log, steps + k);
         basics::put(registers, at + k, register_log::step_index(step));
-        k += 1;
     }
 }
 
@@ -96,10 +78,8 @@ fn register_of(component: Component) -> Register
     ensures { result ≡ widths_of component }
 {
     match component {
-        Component::Field(_) => Register::fresh(),
         Component::Register(register) => register,
-        Component::Regfile(_) => Register::fresh(),
-        Component::Addrmap(_, _) => Register::fresh(),
+        _ => Register::fresh(),
     }
 }
 
@@ -132,6 +112,7 @@ fn write_register(
 }
 
 // Writes a field's row.
+#[tactic(auto, unfolding(basics::specs::Slices::written, rows::specs::Rows::field_cells))]
 fn write_field(fields: &mut [u64], j: usize, field: FieldAt)
     requires { j ≤ index_bound }
     ensures { fields.new ≡ written fields.old (j * field_row_width) (field_cells field) }
@@ -152,7 +133,7 @@ fn write_field(fields: &mut [u64], j: usize, field: FieldAt)
 // Writes a field's row and its label, where an instance is a field; answers the next field row.
 fn write_placed(
     text: &[u8],
-    placed: Placed,
+    placed: Option<FieldAt>,
     name: Name,
     fields: &mut [u64],
     labels: &mut [u8],
@@ -162,8 +143,8 @@ fn write_placed(
     ensures { RunWrites fields.old fields.new labels.old labels.new j (with_field (bytes_in text.now name) placed []) result }
 {
     match placed {
-        Placed::Other => j,
-        Placed::Field(field) => {
+        None => j,
+        Some(field) => {
             write_field(fields, j, field);
             let label = identifiers::bytes_of(text, name.start, name.end);
             write_name(labels, j * basics::NAME_WIDTH, label);
@@ -187,24 +168,17 @@ fn write_run(
     ensures { RunWrites fields.old fields.new labels.old labels.new first (fields_in text.now cells.now extent row) result }
 {
     let span = cells::instances_of(cells, row);
-    let mut i = span.from;
     let mut next = BitPlace(0);
     let mut j = first;
-    while i < span.to {
-        match recall::child_at(text, cells, shapes, i) {
-            ChildReading::Refused(_, _) => {
-                // never so: the cells hold readable instances
-                return j;
-            }
-            ChildReading::Done(inner, instance) => {
-                let component = cells::component_at(cells, inner);
-                let placed = closing_rules::placed_as(component, next, instance);
-                let name = instance.name;
-                j = write_placed(text, placed, name, fields, labels, j);
-                next = closing_rules::bit_above(placed, next);
-                i += 1;
-            }
-        }
+    for i in span.from..span.to {
+        let Ok((inner, instance)) = recall::child_at(text, cells, shapes, i) else {
+            // never so: the cells hold readable instances
+            break;
+        };
+        let component = cells::component_at(cells, inner);
+        let placed = closing_rules::placed_as(component, next, instance);
+        j = write_placed(text, placed, instance.name, fields, labels, j);
+        next = closing_rules::bit_above(placed, next);
     }
     j
 }
@@ -229,14 +203,12 @@ pub fn write_rows(
     ensures of_labels { labels.new ≡ written labels.old 0 (label_table (entries_in text.now cells.now extent extent.map)) }
 {
     let title = cells::name_at(cells, extent.map);
-    let mut i = 0;
     let mut first = 0;
-    while i < count {
+    for i in 0..count {
         let row = register_log::head_row(basics::cell(log, i * register_log::LOG_WIDTH));
         write_path(text, log, i, title, paths);
         let next = write_run(text, cells, shapes, extent, row, fields, labels, first);
         write_register(cells, log, i, first, next - first, registers);
         first = next;
-        i += 1;
     }
 }

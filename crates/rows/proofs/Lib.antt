@@ -1,5 +1,4 @@
-pub mod Names
-pub mod Fields
 pub mod Registers
+pub mod Loops
 pub mod Padded
 pub mod Each

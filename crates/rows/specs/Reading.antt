@@ -1,8 +1,6 @@
 -- The map that stands in four tables: the rows read back.
-use Rattle.std.specs.Prelude.{List, [], ◌∷◌, ℕ, zero, suc, ◌+◌, ◌-◌, ◌*◌, ◌/◌, eqb, length}
+use Rattle.std.specs.Prelude.{List, [], ◌∷◌, ℕ, zero, suc, ◌+◌, ◌-◌, ◌*◌, ◌/◌, eqb, length, Option, Some, None}
 use Rattle.std.specs.Prelude.{if◌then◌else◌}
-use Rattle.basics.specs.declared.Given.{Given}
-use Rattle.basics.specs.declared.Given.TheVariants.{Nothing, Number}
 use Rattle.basics.specs.Slices.{cell_of}
 use Rattle.basics.specs.Limits.{register_row_width, name_width, path_row_width}
 use Rattle.rows.specs.Rows.{Step, Field, Entry, Map, Tables}
@@ -16,8 +14,8 @@ name_from t at (suc n) = if eqb (cell_of t at) 0 then [] else (cell_of t at ∷ 
 abbrev pub name_at : List ℕ → ℕ → List ℕ
 name_at t at = name_from t at name_width
 
-abbrev pub index_from : ℕ → Given
-index_from code = if eqb code 0 then Nothing else Number (code - 1)
+abbrev pub index_from : ℕ → Option ℕ
+index_from code = if eqb code 0 then None else Some (code - 1)
 
 -- `n` steps of a path, whose indices and names stand from these places on
 unfoldable pub steps_from : List ℕ → List ℕ → ℕ → ℕ → ℕ → List Step

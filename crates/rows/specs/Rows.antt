@@ -1,8 +1,6 @@
 -- The rows of a map, which "hold what the listing shows, no more": its registers in map order with their fields, and the four tables in
 -- which they stand. Every row has one form only: unused parts are 0.
-use Rattle.std.specs.Prelude.{List, [], ◌∷◌, ◌++◌, ℕ, zero, suc, ◌+◌, length}
-use Rattle.basics.specs.declared.Given.{Given}
-use Rattle.basics.specs.declared.Given.TheVariants.{Nothing, Number}
+use Rattle.std.specs.Prelude.{List, [], ◌∷◌, ◌++◌, ℕ, zero, suc, ◌+◌, length, Option, Some, None}
 use Rattle.fields.specs.declared.Offset.{Offset}
 use Rattle.fields.specs.declared.Register.{Register}
 use Rattle.fields.specs.declared.FieldAt.{FieldAt}
@@ -12,7 +10,7 @@ use Rattle.basics.specs.Limits.{nest_limit, name_width, path_row_width}
 -- a step of a path: a name's bytes, and an element's index in an array
 pub record Step : Type 0 where
   pub name : List ℕ
-  pub index : Given
+  pub index : Option ℕ
 
 -- a field: its name's bytes, its bits, access, effects and reset
 pub record Field : Type 0 where
@@ -38,9 +36,9 @@ padded (suc n) [] = 0 ∷ padded n []
 padded (suc n) (x ∷ xs) = x ∷ padded n xs
 
 -- an index in a cell: 0 for none, else one more
-abbrev pub index_code : Given → ℕ
-index_code Nothing = 0
-index_code (Number k) = suc k
+abbrev pub index_code : Option ℕ → ℕ
+index_code None = 0
+index_code (Some k) = suc k
 
 unfoldable pub indices : List Step → List ℕ
 indices [] = []

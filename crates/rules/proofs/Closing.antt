@@ -12,7 +12,8 @@ use Rattle.parts.specs.declared.Kind.TheVariants as kind
 use Rattle.parts.specs.declared.Name.{Name}
 use Rattle.parts.specs.declared.Header.{Header}
 use Rattle.basics.specs.Limits.{definition_limit}
-use Rattle.basics.specs.Judged.{unless}
+use Rattle.basics.specs.Judged.{unless, fine, fault, rule_number}
+use Rattle.basics.specs.declared.Rule.{Rule}
 use Rattle.properties.specs.Assigned.{nearest}
 use Rattle.properties.specs.declared.Settings.{Settings}
 use Rattle.components.specs.Components.{component_of, kind_of}
@@ -29,7 +30,6 @@ use Rattle.closing_rules.proofs.Laws.{stored_closing}
 use Rattle.scopes.specs.Walks.{first_filed, row_of, filed_cells, closed_walk}
 use Rattle.scopes.specs.declared.Progress.{Progress}
 use Rattle.scopes.specs.declared.Scope.{Scope}
-use Rattle.scopes.specs.declared.Progressed.TheVariants as progressed
 use Rattle.rules.specs.Judge.{State, closed}
 use Rattle.rules.specs.Standing.{FitsText, Kept, Standing, Closed, body_fault, body_on, body_stops, body_moves, Closing}
 use Rattle.rules.proofs.Frames.{kept_same, row_kept, row_later, stored_of_lem}
@@ -118,6 +118,10 @@ kind_of_component kind.Regfile s = refl
 kind_of_component kind.Reg s = refl
 kind_of_component kind.Field s = refl
 
+-- 0 is no rule's number
+positive : (r : Rule) → 0 < rule_number r
+positive r = grind arith
+
 module _ (text t : List ℕ) (header : Header) (scope : Scope) (w : Progress) (brace next : ℕ) {c : Component} (e : c ≡ component_of header.kind (nearest w.assigned.own scope.defaults))
     {n : ℕ} (f : n ≡ closing_in text t (entries_at + scope.first) (entries_at + w.held) c) where
   fault_of_lem : (s : State) → Standing text t scope w s → n ≡ closing_fault s.known.table (component_of header.kind (nearest s.assigned.own scope.defaults)) s.held
@@ -126,13 +130,13 @@ module _ (text t : List ℕ) (header : Header) (scope : Scope) (w : Progress) (b
       let a = f ∙ stored_closing c (rw z at (stored_of_lem st.rows st.held st.sound)) in
       rw (e, st.assigned) at a
 
-  pub close_fault_lem : 0 < n → Closing text t t header scope w brace next (progressed.Refused n brace)
+  pub close_fault : (r : Rule) → n ≡ rule_number r → Closing text t t header scope w brace next (fault n brace)
   unfolding closed unless
-  close_fault_lem y =
+  close_fault r y =
       record {
         kept = kept_same;
         moves = body_stops;
-        each = λ s st. rw (← fault_of_lem s st, lt-ltb 0 n y) body_fault;
+        each = λ s st. rw (← fault_of_lem s st, lt-ltb 0 n (rw y (positive r))) body_fault;
       }
 
   module _ (g : FitsText (length text) scope w) (o : w.closed < w.opened) (past : w.at < next) (inside : next ≤ length text) where
@@ -226,7 +230,7 @@ module _ (text t : List ℕ) (header : Header) (scope : Scope) (w : Progress) (b
                 rw (← z) (rw last_filed (kind_of_component header.kind (nearest s.assigned.own scope.defaults)));
           }
 
-    pub close_on : n ≤ 0 → {u : List ℕ} {v : Progress} → u ≡ filed_cells t header scope w c → v ≡ closed_walk scope w next → Closing text t u header scope w brace next (progressed.Done v)
+    pub close_on : n ≡ 0 → {u : List ℕ} {v : Progress} → u ≡ filed_cells t header scope w c → v ≡ closed_walk scope w next → Closing text t u header scope w brace next (fine v)
     unfolding closed unless filed_cells
     close_on y {u} x z =
         rw (x, z)
@@ -244,5 +248,5 @@ module _ (text t : List ℕ) (header : Header) (scope : Scope) (w : Progress) (b
                 gap = omega arith;
                 opened = g.opened;
               });
-          each = λ s st. rw (← fault_of_lem s st, le-ltb 0 n y) (body_on (definition_filed s st));
+          each = λ s st. rw (← fault_of_lem s st, y) (body_on (definition_filed s st));
         })

@@ -7,12 +7,10 @@ use native.Mathlib.Omega.{arith}
 use lib.ListN.{length}
 use lib.Dec.{ltb}
 use borrow.Author.Tests.{ltb-false}
-use Rattle.std.specs.Prelude.{if◌then◌else◌}
+use Rattle.std.specs.Prelude.{if◌then◌else◌, Some}
 use Rattle.parts.specs.declared.Name.{Name}
 use Rattle.suffixes.specs.Suffixes.{instance_fault}
-use Rattle.basics.specs.declared.Fault.TheVariants.{None}
 use Rattle.identifiers.specs.Names.{same_name}
-use Rattle.basics.specs.declared.Given.TheVariants.{Number}
 use Rattle.components.specs.Components.{kind_of}
 use Rattle.basics.specs.Slices.{cell_of}
 use Rattle.cells.specs.Cells.{values_in, first_in, below_in, definition_width, place_in, row_in}
@@ -20,6 +18,7 @@ use Rattle.cells.specs.Definitions.{Child, Definition, definition_of, VisibleTyp
 use Rattle.cells.specs.Relation.{IsEntry, Block, block_end, block_on, IsRow, Holds, Chain, chain_stop, chain_on}
 use Rattle.closing_rules.specs.Relation.{HeldBetween, stored_end, stored_on}
 use Rattle.rules.specs.Standing.{Kept, Sounds, sounds_end, sounds_on}
+use Rattle.basics.specs.Judged.{Accepted}
 
 pub kept_same : {t : List ℕ} {n f h : ℕ} → Kept t t n f h
 kept_same = record { long = refl; rows = λ j l. refl; filed = λ j l k. refl; opens = λ j l k. refl }
@@ -102,12 +101,12 @@ chain_join chain_stop c = c
 chain_join (chain_on {e = e} s m b d) c = chain_on {e = e} (omega arith) m (omega arith) (chain_join d c)
 
 -- the type that a name means is declared before
-pub lookup_low : (text : List ℕ) (n : Name) {t : List ℕ} {stop head d : ℕ} {es : List VisibleType} → Chain t stop head es → lookup text n es ≡ Number d → d < head
+pub lookup_low : (text : List ℕ) (n : Name) {t : List ℕ} {stop head d : ℕ} {es : List VisibleType} → Chain t stop head es → lookup text n es ≡ Some d → d < head
 unfolding lookup
-lookup_low text n chain_stop q = absurd (let z : ◌≡◌ {A = ℕ} 0 1 = cc in omega arith)
+lookup_low text n chain_stop q = absurd cc
 lookup_low text n {t} {stop} {d = d} (chain_on {e = e} {es = es} s m b c) q = by (same_name text n e.name) (λ z. lookup_low text n c z) q
   where
-    by : (x : Bool) → (lookup text n es ≡ Number d → d < below_in t e.row) → (if x then Number e.row else lookup text n es) ≡ Number d → d < suc e.row
+    by : (x : Bool) → (lookup text n es ≡ Some d → d < below_in t e.row) → (if x then Some e.row else lookup text n es) ≡ Some d → d < suc e.row
     by true f q = let z : e.row ≡ d = cc in omega arith
     by false f q = omega (arith, f q, below_low t e.row)
 
@@ -123,7 +122,7 @@ sounds_kept k a b p (sounds_on {c = c} l s rest) =
     sounds_on {c = c} (omega (arith, l, p, a.count, b.count)) (rw (same_component k a b p c.type (omega (arith, l, a.count))) s) (sounds_kept k a b p rest)
 
 pub sounds_more : {table : List Definition} {cs : List Child} (c : Child) → Sounds table cs → c.type < length table
-    → instance_fault (kind_of (definition_of table c.type).component) c.instance ≡ None → Sounds table (cs ++ (c ∷ []))
+    → instance_fault (kind_of (definition_of table c.type).component) c.instance ≡ Accepted → Sounds table (cs ++ (c ∷ []))
 sounds_more c sounds_end l s = sounds_on {c = c} l s sounds_end
 sounds_more c (sounds_on {c = d} m x rest) l s = sounds_on {c = d} m x (sounds_more c rest l s)
 

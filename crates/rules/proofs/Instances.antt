@@ -7,15 +7,12 @@ use native.Mathlib.Omega.{arith}
 use lib.ListN.{length}
 use Rattle.parts.specs.declared.Kind.{Kind}
 use Rattle.parts.specs.declared.Instance.{Instance}
-use Rattle.suffixes.specs.Suffixes.{instance_fault}
 use Rattle.basics.specs.Limits.{text_limit, definition_limit}
-use Rattle.basics.specs.declared.Fault.{Fault}
-use Rattle.basics.specs.declared.Fault.TheVariants.{None, Refused}
 use Rattle.chars.proofs.Laws.{same_equal}
 use Rattle.parts.specs.Reading.{ok}
 use Rattle.parts.specs.Parts.{instance_at}
 use Rattle.identifiers.specs.Names.{bytes_of, is_among}
-use Rattle.basics.specs.Judged.{unless}
+use Rattle.basics.specs.Judged.{Accepted, Refused}
 use Rattle.basics.specs.Slices.{cell_of}
 use Rattle.cells.specs.Cells.{entries_at, entry_of, instance_room, entry_places, link_bound, place_in, row_in}
 use Rattle.cells.specs.Definitions.{Child, Definition, names_of}
@@ -28,36 +25,10 @@ use Rattle.name_tree.proofs.Finding.{seek_finds}
 use Rattle.name_tree.proofs.Names.{same_own, bytes_short, entry_named, block_named}
 use Rattle.parts.proofs.InstanceName.{instance_own}
 use Rattle.name_tree.proofs.Growing.{grown-length, grown_last, grown_other, grown_place, grown_row, grown_grows, grows_linked}
-use Rattle.scopes.specs.declared.Enclosing.{Enclosing}
-use Rattle.scopes.specs.Places.{may_hold}
 use Rattle.scopes.specs.declared.Scope.{Scope}
 use Rattle.rules.specs.Judge.{judge_instances}
 use Rattle.rules.specs.Standing.{InstanceRules, HeldList, Typed, added_not, added_one, Adds}
 use Rattle.rules.proofs.Frames.{kept_same, block_alike, block_more, sounds_more}
-
-module _ (taken : Bool) (enclosing : Enclosing) (kind : Kind) (i : Instance) where
-  pub rules_twice : taken ≡ true → InstanceRules taken enclosing kind i (Refused 6 i.name.start)
-  unfolding unless
-  rules_twice y =
-      record {
-        new = λ e. absurd (let z : ◌≡◌ {A = ℕ} 0 1 = cc in omega arith);
-        sound = λ e. absurd (let z : ◌≡◌ {A = ℕ} 0 1 = cc in omega arith);
-        each = λ rest. rw y;
-      }
-
-  module _ (n : taken ≡ false) {m : Bool} (e : m ≡ may_hold enclosing kind) where
-    pub rules_kind : m ≡ false → InstanceRules taken enclosing kind i (Refused 10 i.name.start)
-    unfolding unless
-    rules_kind y =
-        record {
-          new = λ e. n;
-          sound = λ e. absurd (let z : ◌≡◌ {A = ℕ} 0 1 = cc in omega arith);
-          each = λ rest. rw (n, sym e ∙ y);
-        }
-
-    pub rules_rest : {r : Fault} → m ≡ true → r ≡ instance_fault kind i → InstanceRules taken enclosing kind i r
-    unfolding unless
-    rules_rest y f = record { new = λ g. n; sound = λ g. sym f ∙ g; each = λ rest. rw (n, sym e ∙ y, f) }
 
 pub length_more : {A : Type 0} (xs : List A) (x : A) → length (xs ++ (x ∷ [])) ≡ suc (length xs)
 length_more [] x = refl
@@ -107,22 +78,22 @@ module _ (text t : List ℕ) (scope : Scope) (row : ℕ) (kind : Kind) (held : �
       by true q e k = sym (f.taken q) ∙ e
       by false q e k = sym (f.free q k) ∙ e
 
-  pub add_not : {n p : ℕ} {r : Fault} → InstanceRules spot.taken scope.enclosing kind i r → r ≡ Refused n p → Adds text t t scope row kind held i (Refused n p)
+  pub add_not : {n p : ℕ} → InstanceRules spot.taken scope.enclosing kind i (Refused n p) → Adds text t t scope row kind held i (Refused n p)
   unfolding judge_instances
-  add_not {n} {p} r e =
+  add_not {n} {p} rules =
       record {
         long = refl;
         kept = λ x y a b. kept_same;
         each = λ at m table cs reads typed l. added_not {n = n} {p = p}
-            (λ is. rw (among table cs l) at (sym (r.each (judge_instances text scope.enclosing kind row is (cs ++ (record { instance = i; type = row } ∷ []))))) ∙ (rw e));
+            (λ is. rw (among table cs l) at (sym (rules.each (judge_instances text scope.enclosing kind row is (cs ++ (record { instance = i; type = row } ∷ []))))));
       }
 
-  module _ (few : held < instance_room) (low : i.name.start < entry_places) (small : row < definition_limit) {r : Fault} (rules : InstanceRules spot.taken scope.enclosing kind i r) (sound : r ≡ None) where
+  module _ (few : held < instance_room) (low : i.name.start < entry_places) (small : row < definition_limit) (rules : InstanceRules spot.taken scope.enclosing kind i Accepted) where
     abbrev u : List ℕ
     u = grown t from count spot i.name.start row
 
     new : spot.taken ≡ false
-    new = rules.new sound
+    new = rules.new refl
 
     keep : (j : ℕ) → (from ≤ j → from + count < j) → cell_of u j ≡ cell_of t j
     keep j h = grown_other t from count spot i.name.start row j h
@@ -151,10 +122,10 @@ module _ (text t : List ℕ) (scope : Scope) (row : ℕ) (kind : Kind) (held : �
           block = rw (← a) all;
           count = omega (arith, l.count, more);
           linked = rw (← a, ← s) tree;
-          sound = sounds_more d l.sound typed.low (rw typed.kind_is (rules.sound sound));
+          sound = sounds_more d l.sound typed.low (rw typed.kind_is (rules.sound refl));
         }
 
-    pub add_one : {v : List ℕ} → v ≡ grown t from count spot i.name.start row → Adds text t v scope row kind held i None
+    pub add_one : {v : List ℕ} → v ≡ grown t from count spot i.name.start row → Adds text t v scope row kind held i Accepted
     unfolding judge_instances
     add_one s =
         rw s
@@ -170,5 +141,5 @@ module _ (text t : List ℕ) (scope : Scope) (row : ℕ) (kind : Kind) (held : �
           each = λ at m table cs reads typed l.
               let d : Child = record { instance = i; type = row } in
               added_one {ds = cs ++ (d ∷ [])} (added at m table cs reads typed l)
-              (λ is. rw (among table cs l) at (sym (rules.each (judge_instances text scope.enclosing kind row is (cs ++ (d ∷ []))))) ∙ (rw sound));
+              (λ is. rw (among table cs l) at (sym (rules.each (judge_instances text scope.enclosing kind row is (cs ++ (d ∷ []))))));
         })

@@ -13,29 +13,23 @@ use Rattle.parts.specs.Words.{is_kind, is_mark, is_end}
 use Rattle.parts.specs.declared.Header.{Header}
 use Rattle.parts.proofs.Ends.{mark_past}
 use Rattle.basics.specs.Limits.{body_limit, text_limit}
-use Rattle.syntax.specs.Tree.{Body}
+use Rattle.syntax.specs.Tree.{Elem, Body}
 use Rattle.syntax.specs.Grammar.{statement_at, element_at, definition_at, body_at, file_at}
 use Rattle.syntax.proofs.Derive.{Reads, reads_close, reads_more, elements_read, Files, files_end, files_more, file_files}
 use Rattle.basics.specs.Judged.{Judged, fault, fine, onward}
 use Rattle.properties.specs.Assigned.{no_settings}
-use Rattle.basics.specs.declared.Given.{Given}
-use Rattle.basics.specs.declared.Given.TheVariants.{Nothing, Number}
 use Rattle.cells.specs.Cells.{size}
 use Rattle.cells.specs.Definitions.{VisibleType}
 use Rattle.cells.specs.Relation.{block_end, Chain, chain_stop}
 use Rattle.scopes.specs.Walks.{root_scope, root_walk, ruling_of}
-use Rattle.scopes.specs.declared.Enclosing.{Enclosing}
-use Rattle.scopes.specs.declared.Enclosing.TheVariants.{Root, Inside}
 use Rattle.scopes.specs.declared.Progress.{Progress}
 use Rattle.scopes.specs.declared.Scope.{Scope}
-use Rattle.scopes.specs.declared.Progressed.{Progressed}
-use Rattle.scopes.specs.declared.Progressed.TheVariants as progressed
-use Rattle.scopes.specs.declared.Ruling.{Ruling}
-use Rattle.scopes.specs.declared.Ruling.TheVariants as ruling
-use Rattle.rules.specs.Judge.{State, Made, opening, Meaning, meaning_of, closed, judge_elem, judge_body, judge_file, judge}
-use Rattle.rules.specs.Standing.{FitsText, Kept, sounds_end, Standing, Matches, matches_fault, matches_on, Moved, Moves, moves_fault, moves_on, Steps, BodyMatches, body_fault, BodyMoves, body_stops, body_moves, Closing, BodySteps, FileMatches, file_fault, file_map, Rules}
+use Rattle.rules.specs.Judge.{State, Made, opening, Meaning, meaning_of, judge_elem, judge_body, judge_file, judge}
+use Rattle.rules.specs.Standing.{FitsText, Kept, sounds_end, Standing, Matches, matches_fault, matches_on, Moved, Moves, moves_on, Steps, BodyMatches, body_fault, BodyMoves, body_stops, body_moves, Closing, BodySteps, FileMatches, file_fault, file_map, Rules}
 use Rattle.rules.proofs.Frames.{kept_same, kept_then, chain_kept}
 use Rattle.name_tree.proofs.Growing.{linked_nothing}
+use Rattle.std.specs.Prelude.{Option, Some, None}
+use Rattle.parts.specs.declared.Kind.{Kind}
 
 -- what an answer of a step says
 record Went (text u : List ℕ) (scope : Scope) (n : ℕ) (j : Judged State) (v : Progress) : Type 0 where
@@ -45,25 +39,17 @@ record Went (text u : List ℕ) (scope : Scope) (n : ℕ) (j : Judged State) (v 
   pub stands : Standing text u scope v state
 
 module _ {text u : List ℕ} {scope : Scope} {n : ℕ} where
-  step_faulted : {j : Judged State} {y : Progressed} {m p : ℕ} → y ≡ progressed.Refused m p → Matches text u scope n j y → j ≡ fault m p
-  step_faulted {m = m} {p} e (matches_fault {number = a} {place = b}) =
-      let q : a ≡ m = cc in
-      let r : b ≡ p = cc in
-      rw (q, r)
-  step_faulted e (matches_on a s) = absurd (let z : ◌≡◌ {A = ℕ} 0 1 = cc in omega arith)
+  step_faulted : {j : Judged State} {m p : ℕ} → Matches text u scope n j (fault m p) → j ≡ fault m p
+  step_faulted matches_fault = refl
 
-  step_went : {j : Judged State} {y : Progressed} {v : Progress} → y ≡ progressed.Done v → Matches text u scope n j y → Went text u scope n j v
-  step_went e matches_fault = absurd (let z : ◌≡◌ {A = ℕ} 0 1 = cc in omega arith)
-  step_went {v = v} e (matches_on {s = s} {w = w} a st) =
-      let q : w ≡ v = cc in
-      record { state = s; same = refl; at = rw q at a; stands = rw q at st }
+  step_went : {j : Judged State} {v : Progress} → Matches text u scope n j (fine v) → Went text u scope n j v
+  step_went (matches_on {s = s} a st) = record { state = s; same = refl; at = a; stands = st }
 
-pub step_moved : {long : ℕ} {scope : Scope} {w v : Progress} {y : Progressed} → y ≡ progressed.Done v → Moves long scope w y → Moved long scope w v
-step_moved e moves_fault = absurd (let z : ◌≡◌ {A = ℕ} 0 1 = cc in omega arith)
-step_moved {v = v} e (moves_on {v = v'} m) = let q : v' ≡ v = cc in rw q at m
+step_moved : {long : ℕ} {scope : Scope} {w v : Progress} → Moves long scope w (fine v) → Moved long scope w v
+step_moved (moves_on m) = m
 
 -- an element is a definition or a statement
-module _ (text t : List ℕ) (scope : Scope) (w : Progress) (bodies : ℕ) {u : List ℕ} {r : Progressed} {k : Token} {b : Bool} (e : k ≡ token_at text w.at) (f : b ≡ is_kind k.word) where
+module _ (text t : List ℕ) (scope : Scope) (w : Progress) (bodies : ℕ) {u : List ℕ} {r : Judged Progress} {k : Token} {b : Bool} (e : k ≡ token_at text w.at) (f : b ≡ is_kind k.word) where
   pub step_definition : b ≡ true → Steps text t u scope w (λ a n. definition_at bodies text w.at ≡ ok a n) r → Steps text t u scope w (λ a n. element_at (definition_at bodies text) text w.at ≡ ok a n) r
   unfolding element_at
   step_definition y v =
@@ -119,7 +105,7 @@ module _ (text t₀ : List ℕ) (header : Header) (scope : Scope) (bodies : ℕ)
     pub close_past : b ≡ true → (suc w.at ≤ k.end) × (k.end ≤ length text)
     close_past y = rw e (mark_past text mark.CloseBrace w.at (is_close_lem ∙ y))
 
-    closing_moves : {r : Progressed} → BodyMoves (length text) scope w r → BodyMoves (length text) scope start r
+    closing_moves : {r : Judged Progress} → BodyMoves (length text) scope w r → BodyMoves (length text) scope start r
     closing_moves body_stops = body_stops
     closing_moves (body_moves {v = v} m) =
         body_moves {v = v}
@@ -134,7 +120,7 @@ module _ (text t₀ : List ℕ) (header : Header) (scope : Scope) (bodies : ℕ)
           opened = m.opened;
         })
 
-    pub body_closes : {u : List ℕ} {r : Progressed} → b ≡ true → Closing text t u header scope w k.start k.end r → BodySteps text t₀ u header scope start (λ b n. body_at bodies text start.at ≡ ok b n) r
+    pub body_closes : {u : List ℕ} {r : Judged Progress} → b ≡ true → Closing text t u header scope w k.start k.end r → BodySteps text t₀ u header scope start (λ b n. body_at bodies text start.at ≡ ok b n) r
     unfolding judge_body
     body_closes {u} {r} y v =
         record {
@@ -146,12 +132,13 @@ module _ (text t₀ : List ℕ) (header : Header) (scope : Scope) (bodies : ℕ)
         ended : {tree : Body} {n : ℕ} (env : List VisibleType) {state : State} {answer : Judged Made} → Reads text (definition_at bodies text) w.at tree n → Standing text t scope w state
             → judge_body tree text header env scope.defaults state ≡ answer → BodyMatches text u header scope n answer r
         ended env {state} (reads_close h) st z = rw (← z) (rw e at (v.each state st))
-        ended env (reads_more h q x) st z = absurd (let o : true ≡ false = sym (is_close_lem ∙ y) ∙ h in let p : ◌≡◌ {A = ℕ} 0 1 = cc in omega arith)
+        ended env (reads_more h q x) st z = absurd (let o : true ≡ false = sym (is_close_lem ∙ y) ∙ h in cc)
 
-    module _ (n : b ≡ false) (p : scope.enclosing ≡ Inside header.kind) {u : List ℕ} {r : Progressed} (v : Steps text t u scope w (λ a n. element_at (definition_at bodies text) text w.at ≡ ok a n) r) where
-      pub body_faults : {m q : ℕ} → r ≡ progressed.Refused m q → BodySteps text t₀ u header scope start (λ b n. body_at bodies text start.at ≡ ok b n) (progressed.Refused m q)
+    module _ (n : b ≡ false) (p : scope.enclosing ≡ Some header.kind) {u : List ℕ} where
+      pub body_faults : {m q : ℕ} → Steps text t u scope w (λ a n. element_at (definition_at bodies text) text w.at ≡ ok a n) (fault m q)
+          → BodySteps text t₀ u header scope start (λ b n. body_at bodies text start.at ≡ ok b n) (fault m q)
       unfolding judge_body onward
-      body_faults {m} {q} y =
+      body_faults {m} {q} v =
           record {
             kept = kept_then g.kept v.kept g.closed g.filed (omega arith);
             moves = body_stops;
@@ -159,18 +146,18 @@ module _ (text t₀ : List ℕ) (header : Header) (scope : Scope) (bodies : ℕ)
           }
         where
           faulted : {tree : Body} {n : ℕ} (env : List VisibleType) {state : State} {answer : Judged Made} → Reads text (definition_at bodies text) w.at tree n → Standing text t scope w state → Chain t 0 scope.base env
-              → judge_body tree text header env scope.defaults state ≡ answer → BodyMatches text u header scope n answer (progressed.Refused m q)
-          faulted env (reads_close h) st c z = absurd (let o : true ≡ false = sym h ∙ is_close_lem ∙ n in let p : ◌≡◌ {A = ℕ} 0 1 = cc in omega arith)
+              → judge_body tree text header env scope.defaults state ≡ answer → BodyMatches text u header scope n answer (fault m q)
+          faulted env (reads_close h) st c z = absurd (let o : true ≡ false = sym h ∙ is_close_lem ∙ n in cc)
           faulted env {state} {answer} (reads_more {n = i} {e = a} h o x) st c z =
-              let j : judge_elem a text scope.enclosing env scope.defaults state ≡ fault m q = step_faulted y (v.each a i env state o st c) in
-              let k : judge_elem a text (Inside header.kind) env scope.defaults state ≡ fault m q = rw p at j in
+              let j : judge_elem a text scope.enclosing env scope.defaults state ≡ fault m q = step_faulted (v.each a i env state o st c) in
+              let k : judge_elem a text (Some header.kind) env scope.defaults state ≡ fault m q = rw p at j in
               let w : fault m q ≡ answer = rw k at z in
               rw (← w) body_fault
 
-      pub body_goes : {x : Progress} → r ≡ progressed.Done x → BodyGoing text t₀ u header scope bodies start x
+      pub body_goes : {x : Progress} → Steps text t u scope w (λ a n. element_at (definition_at bodies text) text w.at ≡ ok a n) (fine x) → BodyGoing text t₀ u header scope bodies start x
       unfolding judge_body onward
-      body_goes {x} y =
-          let m : Moved (length text) scope w x = step_moved y v.moves in
+      body_goes {x} v =
+          let m : Moved (length text) scope w x = step_moved v.moves in
           record {
             fits = m.fits;
             inner = omega (arith, m.gap, g.inner);
@@ -184,11 +171,11 @@ module _ (text t₀ : List ℕ) (header : Header) (scope : Scope) (bodies : ℕ)
         where
           went : {tree : Body} {n : ℕ} (env : List VisibleType) {state : State} {answer : Judged Made} → Reads text (definition_at bodies text) w.at tree n → Standing text t scope w state → Chain t 0 scope.base env
               → judge_body tree text header env scope.defaults state ≡ answer → BodyRest text u header scope bodies x n env answer
-          went env (reads_close h) st c z = absurd (let o : true ≡ false = sym h ∙ is_close_lem ∙ n in let p : ◌≡◌ {A = ℕ} 0 1 = cc in omega arith)
+          went env (reads_close h) st c z = absurd (let o : true ≡ false = sym h ∙ is_close_lem ∙ n in cc)
           went env {state} {answer} (reads_more {n = i} {e = a} {b = rest} h o d) st c z =
-              let j = step_went y (v.each a i env state o st c) in
-              let k : judge_elem a text (Inside header.kind) env scope.defaults state ≡ fine j.state =
-              ap (λ (x : Enclosing). judge_elem a text x env scope.defaults state) (sym p) ∙ j.same in
+              let j = step_went (v.each a i env state o st c) in
+              let k : judge_elem a text (Some header.kind) env scope.defaults state ≡ fine j.state =
+              ap (λ (x : Option Kind). judge_elem a text x env scope.defaults state) (sym p) ∙ j.same in
               record {
                 tree = rest;
                 state = j.state;
@@ -198,19 +185,9 @@ module _ (text t₀ : List ℕ) (header : Header) (scope : Scope) (bodies : ℕ)
                 same = rw k at z;
               }
 
-      pub body_falls : {x : Progress} → r ≡ progressed.Done x → length text - x.at < length text - w.at
-      body_falls {x} y = let m : Moved (length text) scope w x = step_moved y v.moves in omega (arith, m.past, m.fits.inside)
-
--- the cells are as many as before
-module _ {text t₀ t : List ℕ} {header : Header} {scope : Scope} {bodies : ℕ} {start w : Progress} (g : BodyGoing text t₀ t header scope bodies start w) {u : List ℕ} {r : Progressed} where
-  pub close_long : {p q : ℕ} → Closing text t u header scope w p q r → length u ≡ length t₀
-  close_long v = v.kept.long ∙ g.kept.long
-
-  pub definition_long : (bodies : ℕ) → Steps text t u scope w (λ a n. definition_at bodies text w.at ≡ ok a n) r → length u ≡ length t₀
-  definition_long bodies v = v.kept.long ∙ g.kept.long
-
-  pub statement_long : Steps text t u scope w (λ a n. statement_at text w.at ≡ ok a n) r → length u ≡ length t₀
-  statement_long v = v.kept.long ∙ g.kept.long
+-- a step goes on
+pub step_falls : {text t u : List ℕ} {scope : Scope} {w x : Progress} {reads : Elem → ℕ → Type 0} → Steps text t u scope w reads (fine x) → length text - x.at < length text - w.at
+step_falls {text} {scope = scope} {w} {x} v = let m : Moved (length text) scope w x = step_moved v.moves in omega (arith, m.past, m.fits.inside)
 
 -- what is left of a file
 pub record FileRest (text t : List ℕ) (w : Progress) (n : ℕ) (answer : Judged Meaning) : Type 0 where
@@ -245,7 +222,7 @@ module _ (text t₀ : List ℕ) where
         each = λ b n l q.
             record {
               tree = b;
-              state = opening [] Nothing 0;
+              state = opening [] None 0;
               reads = file_files text q;
               stands =
                   record {
@@ -268,44 +245,41 @@ module _ (text t₀ : List ℕ) where
     is_end_lem : is_end (token_at text w.at).word ≡ b
     is_end_lem = rw (← e) (sym f)
 
-    pub file_ends : {r : Ruling} → b ≡ true → r ≡ ruling_of w k.start w.map → Rules text t₀ t r
+    pub file_ends : {r : Judged (ℕ × ℕ)} → b ≡ true → r ≡ ruling_of w k.start w.map → Rules text t₀ t r
     unfolding judge_file
     file_ends {r} y x = record { long = g.long; each = λ b n l q. let a = g.each b n l q in ended a.reads a.stands a.same }
       where
-        ruled : {state : State} (m : Given) → Standing text t root_scope w state → FileMatches text t (meaning_of state.known m k.start) (ruling_of w k.start m)
-        ruled Nothing st = file_fault
-        ruled (Number d) st = file_map {closed = w.closed} {filed = w.filed} st.rows (omega (arith, g.fits.closed, g.fits.opened)) (omega (arith, g.fits.room, g.fits.inside, g.fits.short))
+        ruled : {state : State} (m : Option ℕ) → Standing text t root_scope w state → FileMatches text t (meaning_of state.known m k.start) (ruling_of w k.start m)
+        ruled None st = file_fault
+        ruled (Some d) st = file_map {closed = w.closed} {filed = w.filed} st.rows (omega (arith, g.fits.closed, g.fits.opened)) (omega (arith, g.fits.room, g.fits.inside, g.fits.short))
 
         ended : {tree : Body} {n : ℕ} {state : State} {answer : Judged Meaning} → Files text w.at tree n → Standing text t root_scope w state → judge_file tree text state ≡ answer → FileMatches text t answer r
         ended {state = state} (files_end h) st z =
             let a : FileMatches text t (meaning_of state.known state.known.map k.start) (ruling_of w k.start w.map) =
-            subst (λ (m : Given). FileMatches text t (meaning_of state.known m k.start) (ruling_of w k.start w.map)) st.map (ruled w.map st) in
+            subst (λ (m : Option ℕ). FileMatches text t (meaning_of state.known m k.start) (ruling_of w k.start w.map)) st.map (ruled w.map st) in
             rw (← z, x, ← e) a
-        ended (files_more h q o) st z = absurd (let o : true ≡ false = sym (is_end_lem ∙ y) ∙ h in let p : ◌≡◌ {A = ℕ} 0 1 = cc in omega arith)
+        ended (files_more h q o) st z = absurd (let o : true ≡ false = sym (is_end_lem ∙ y) ∙ h in cc)
 
-    module _ (n : b ≡ false) {u : List ℕ} {r : Progressed} (v : Steps text t u root_scope w (λ a n. definition_at body_limit text w.at ≡ ok a n) r) where
-      pub file_faults : {m q : ℕ} → r ≡ progressed.Refused m q → Rules text t₀ u (ruling.Refused m q)
+    module _ (n : b ≡ false) {u : List ℕ} where
+      pub file_faults : {m q : ℕ} → Steps text t u root_scope w (λ a n. definition_at body_limit text w.at ≡ ok a n) (fault m q) → Rules text t₀ u (fault m q)
       unfolding judge_file onward
-      file_faults {m} {q} y = record { long = v.kept.long ∙ g.long; each = λ b n l o. let a = g.each b n l o in faulted a.reads a.stands a.same }
+      file_faults {m} {q} v = record { long = v.kept.long ∙ g.long; each = λ b n l o. let a = g.each b n l o in faulted a.reads a.stands a.same }
         where
-          faulted : {tree : Body} {n : ℕ} {state : State} {answer : Judged Meaning} → Files text w.at tree n → Standing text t root_scope w state → judge_file tree text state ≡ answer → FileMatches text u answer (ruling.Refused m q)
-          faulted (files_end h) st z = absurd (let o : true ≡ false = sym h ∙ is_end_lem ∙ n in let p : ◌≡◌ {A = ℕ} 0 1 = cc in omega arith)
+          faulted : {tree : Body} {n : ℕ} {state : State} {answer : Judged Meaning} → Files text w.at tree n → Standing text t root_scope w state → judge_file tree text state ≡ answer → FileMatches text u answer (fault m q)
+          faulted (files_end h) st z = absurd (let o : true ≡ false = sym h ∙ is_end_lem ∙ n in cc)
           faulted {state = state} {answer} (files_more {n = i} {e = a} h o x) st z =
-              let j : judge_elem a text Root [] no_settings state ≡ fault m q = step_faulted y (v.each a i [] state o st chain_stop) in
+              let j : judge_elem a text None [] no_settings state ≡ fault m q = step_faulted (v.each a i [] state o st chain_stop) in
               let w : fault m q ≡ answer = rw j at z in
               rw (← w) file_fault
 
-      pub file_goes : {x : Progress} → r ≡ progressed.Done x → FileGoing text t₀ u x
+      pub file_goes : {x : Progress} → Steps text t u root_scope w (λ a n. definition_at body_limit text w.at ≡ ok a n) (fine x) → FileGoing text t₀ u x
       unfolding judge_file onward
-      file_goes {x} y =
-          let m : Moved (length text) root_scope w x = step_moved y v.moves in
+      file_goes {x} v =
+          let m : Moved (length text) root_scope w x = step_moved v.moves in
           record { fits = m.fits; long = v.kept.long ∙ g.long; each = λ b n l o. let a = g.each b n l o in went a.reads a.stands a.same }
         where
           went : {tree : Body} {n : ℕ} {state : State} {answer : Judged Meaning} → Files text w.at tree n → Standing text t root_scope w state → judge_file tree text state ≡ answer → FileRest text u x n answer
-          went (files_end h) st z = absurd (let o : true ≡ false = sym h ∙ is_end_lem ∙ n in let p : ◌≡◌ {A = ℕ} 0 1 = cc in omega arith)
+          went (files_end h) st z = absurd (let o : true ≡ false = sym h ∙ is_end_lem ∙ n in cc)
           went {state = state} {answer} (files_more {n = i} {e = a} {b = rest} h o d) st z =
-              let j = step_went y (v.each a i [] state o st chain_stop) in
+              let j = step_went (v.each a i [] state o st chain_stop) in
               record { tree = rest; state = j.state; reads = rw j.at d; stands = j.stands; same = rw j.same at z }
-
-      pub file_falls : {x : Progress} → r ≡ progressed.Done x → length text - x.at < length text - w.at
-      file_falls {x} y = let m : Moved (length text) root_scope w x = step_moved y v.moves in omega (arith, m.past, m.fits.inside)

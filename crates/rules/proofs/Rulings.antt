@@ -1,5 +1,5 @@
 -- The stages one after another, and what the cells say.
-use mathlib.Core.Path.{◌≡◌, refl, sym, ap, ◌∙◌}
+use mathlib.Core.Path.{◌≡◌, refl, ◌∙◌}
 use mathlib.Core.Bool.{Bool, true, false}
 use mathlib.Core.List.{List, [], ◌∷◌}
 use Prim.Native.Nat.{ℕ, suc, ◌+◌, ◌<◌, ◌≤◌}
@@ -9,24 +9,18 @@ use lib.ListN.{length, get_or}
 use borrow.Author.Tests.{ltb-false}
 use Rattle.std.specs.Prelude.{if◌then◌else◌}
 use Rattle.basics.specs.Limits.{text_limit}
-use Rattle.lex.specs.Words.{refused, words_verdict, verdict_numbers, first_bad}
-use Rattle.lex.specs.declared.Place.{Place as TextPlace}
-use Rattle.lex.specs.declared.Verdict.{Verdict}
-use Rattle.lex.specs.declared.Verdict.TheVariants.{Accepted, Refused}
+use Rattle.lex.specs.Words.{words_verdict, first_bad}
 use Rattle.parts.specs.Reading.{Parsed, ok, stop}
 use Rattle.syntax.specs.Tree.{Body}
 use Rattle.syntax.specs.Grammar.{file_at}
-use Rattle.syntax.specs.Answers.{answer_of, verdict_of as sentence_verdict_of, sentence_verdict}
-use Rattle.basics.specs.Judged.{Judged, fault}
+use Rattle.syntax.specs.Answers.{answer_of, verdict_of, sentence_verdict}
+use Rattle.basics.specs.Judged.{Judged, fault, Accepted, Refused}
 use Rattle.cells.specs.Cells.{size, instance_room}
 use Rattle.cells.specs.Definitions.{Child, Definition, no_definition}
 use Rattle.cells.specs.Relation.{Block, block_end, block_on, IsRow, Holds}
-use Rattle.scopes.specs.Walks.{verdict_of}
-use Rattle.scopes.specs.declared.Ruling.{Ruling}
-use Rattle.scopes.specs.declared.Ruling.TheVariants as ruling
 use Rattle.rules.specs.Judge.{Meaning}
 use Rattle.rules.specs.Standing.{FileMatches, file_fault, file_map, Rules}
-use Rattle.rules.specs.Rules.{after_sentences, ruled, judged_verdict, rules_verdict, judged_numbers, instances_in, definition_in, definitions_in, ruled_as, Held, held_not, held_all, Worked}
+use Rattle.rules.specs.Rules.{after_sentences, ruled, instances_in, definition_in, definitions_in, ruled_as, Held, held_not, held_all, Worked}
 use Rattle.rules.proofs.Frames.{row_later}
 
 -- the cells say what they hold
@@ -50,12 +44,12 @@ pub table_said : {text t : List ℕ} {closed filed : ℕ} {table : List Definiti
 table_said {text} {t} {table = table} h = rw (← h.count) (definitions_said text t 0 table (λ j l. let z : 0 + j ≡ j = omega arith in rw z (definition_said (h.each j (omega (arith, l, h.count))))))
 
 -- a text that the word stage accepts is short
-pub words_short : (text : List ℕ) {v : Verdict} → v ≡ words_verdict text → v ≡ Accepted → length text ≤ text_limit
+pub words_short : (text : List ℕ) → Accepted ≡ words_verdict text → length text ≤ text_limit
 unfolding words_verdict
-words_short text e f = by (ltb text_limit (length text)) refl (sym e ∙ f)
+words_short text e = by (ltb text_limit (length text)) refl e
   where
-    by : (b : Bool) → ltb text_limit (length text) ≡ b → (if b then refused 1 0 else first_bad (length text + 1) text 0) ≡ Accepted → length text ≤ text_limit
-    by true q r = absurd (let z : ◌≡◌ {A = ℕ} 0 1 = cc in omega arith)
+    by : (b : Bool) → ltb text_limit (length text) ≡ b → Accepted ≡ (if b then Refused 1 0 else first_bad (length text + 1) text 0) → length text ≤ text_limit
+    by true q r = absurd cc
     by false q r = ltb-false text_limit (length text) q
 
 -- what stands among the first instances stands in the room for all of them
@@ -63,75 +57,48 @@ holds_room : {text t : List ℕ} {closed filed : ℕ} {table : List Definition} 
 holds_room few h = record { count = h.count; each = λ r l. row_later few (h.each r l) }
 
 -- words and sentences leave the cells alone
-pub worked_untouched : (text t : List ℕ) {n p : ℕ} → Worked text t t (ruling.Refused n p)
+pub worked_untouched : (text t : List ℕ) {n p : ℕ} → Worked text t t (fault n p)
 worked_untouched text t = record { long = refl; held = held_not; words = λ n p q. refl; sentences = λ n p q. refl }
 
--- the stages
-module _ (text t : List ℕ) {v : Verdict} (e : v ≡ words_verdict text) where
-  pub ruled_words : {n : ℕ} {p : TextPlace} → v ≡ Refused n p → ruled_as text t (ruling.Refused n p.at) ≡ ruled text
+-- where the sentence stage refuses a text the grammar does
+pub sentences_stop : (text : List ℕ) {n p : ℕ} → Refused n p ≡ sentence_verdict text → file_at text ≡ stop n p
+unfolding sentence_verdict answer_of
+sentences_stop text {n} {p} = by (file_at text)
+  where
+    by : (y : Parsed Body) → Refused n p ≡ verdict_of (answer_of y) → y ≡ stop n p
+    by (ok b m) e = absurd cc
+    by (stop m q) e = let a : m ≡ n = cc in let b : q ≡ p = cc in rw (a, b)
+
+pub ruleset stages = (words_short, worked_untouched, sentences_stop)
+
+module _ (text t : List ℕ) where
+  ruled_of : {j : Judged Meaning} {r : Judged (ℕ × ℕ)} → FileMatches text t j r → ruled_as text t r ≡ j
+  ruled_of file_fault = refl
+  ruled_of (file_map k few room) = rw (table_said k)
+
+  held_of : {j : Judged Meaning} {r : Judged (ℕ × ℕ)} → FileMatches text t j r → Held text t r
+  held_of file_fault = held_not
+  held_of (file_map {m = m} k few room) = held_all {row = m.map} few (rw (table_said k) (holds_room room k))
+
+-- behind words and sentences the rules fill the cells
+module _ (text t : List ℕ) (words : Accepted ≡ words_verdict text) (sentences : Accepted ≡ sentence_verdict text) {t₀ : List ℕ} {r : Judged (ℕ × ℕ)} (l : size ≤ length t₀) (x : Rules text t₀ t r) where
+  read : (P : Parsed Body → Type 0) → ((b : Body) (n : ℕ) → file_at text ≡ ok b n → P (ok b n)) → P (file_at text)
+  unfolding sentence_verdict answer_of
+  read P f = by (file_at text) refl sentences
+    where
+      by : (y : Parsed Body) → file_at text ≡ y → Accepted ≡ verdict_of (answer_of y) → P y
+      by (ok b n) q e = f b n q
+      by (stop n p) q e = absurd cc
+
+  pub ruled_so : ruled_as text t r ≡ ruled text
   unfolding ruled
-  ruled_words f = rw (sym e ∙ f)
+  ruled_so = rw (← words) (read (λ y. ruled_as text t r ≡ after_sentences text y) (λ b n q. ruled_of text t (x.each b n l q)))
 
-  module _ (f : v ≡ Accepted) {w : Verdict} (g : w ≡ sentence_verdict text) where
-    pub ruled_sentences : {n : ℕ} {p : TextPlace} → w ≡ Refused n p → ruled_as text t (ruling.Refused n p.at) ≡ ruled text
-    unfolding ruled sentence_verdict answer_of
-    ruled_sentences {n} {p} h = rw (sym e ∙ f) (by (file_at text) (sym g ∙ h))
-      where
-        by : (x : Parsed Body) → sentence_verdict_of (answer_of x) ≡ Refused n p → fault n p.at ≡ after_sentences text x
-        by (ok b m) q = absurd (let z : ◌≡◌ {A = ℕ} 0 1 = cc in omega arith)
-        by (stop m q) r = let a : m ≡ n = cc in let b : q ≡ p.at = cc in rw (a, b)
-
-    module _ (h : w ≡ Accepted) {t₀ : List ℕ} {r : Ruling} (l : size ≤ length t₀) (x : Rules text t₀ t r) where
-      not_words : {n : ℕ} {p : TextPlace} → words_verdict text ≡ Refused n p → ⊥
-      not_words q = let z : Accepted ≡ Refused _ _ = sym f ∙ e ∙ q in let o : ◌≡◌ {A = ℕ} 0 1 = cc in omega arith
-
-      not_sentences : {n p : ℕ} → file_at text ≡ stop n p → ⊥
-      unfolding sentence_verdict answer_of
-      not_sentences {n} {p} q =
-          let z : Accepted ≡ refused n p = sym h ∙ g ∙ ap (λ (y : Parsed Body). sentence_verdict_of (answer_of y)) q in let o : ◌≡◌ {A = ℕ} 0 1 = cc in omega arith
-
-      ruled_so : ruled_as text t r ≡ ruled text
-      unfolding ruled
-      ruled_so = rw (sym e ∙ f) (by (file_at text) refl)
-        where
-          matched : {j : Judged Meaning} {r : Ruling} → FileMatches text t j r → ruled_as text t r ≡ j
-          matched file_fault = refl
-          matched (file_map k few room) = rw (table_said k)
-
-          by : (y : Parsed Body) → file_at text ≡ y → ruled_as text t r ≡ after_sentences text y
-          by (ok b n) q = matched (x.each b n l q)
-          by (stop n p) q = absurd (not_sentences q)
-
-      worked_so : Worked text t₀ t r
-      worked_so = record { long = x.long; held = by (file_at text) refl; words = λ n p q. absurd (not_words q); sentences = λ n p q. absurd (not_sentences q) }
-        where
-          matched : {j : Judged Meaning} {r : Ruling} → FileMatches text t j r → Held text t r
-          matched file_fault = held_not
-          matched (file_map {m = m} k few room) = held_all {row = m.map} few (rw (table_said k) (holds_room room k))
-
-          by : (y : Parsed Body) → file_at text ≡ y → Held text t r
-          by (ok b n) q = matched (x.each b n l q)
-          by (stop n p) q = absurd (not_sentences q)
-
-      pub rules_done : (ruled_as text t r ≡ ruled text) × Worked text t₀ t r
-      rules_done = (ruled_so, worked_so)
-
--- the verdict, and its numbers
-module _ (text t : List ℕ) (r : Ruling) {v : Verdict} (e : ruled_as text t r ≡ ruled text) (f : v ≡ verdict_of r) where
-  verdict_so : v ≡ rules_verdict text
-  unfolding rules_verdict
-  verdict_so = f ∙ by r ∙ ap judged_verdict e
-    where
-      by : (r : Ruling) → verdict_of r ≡ judged_verdict (ruled_as text t r)
-      by (ruling.Refused n p) = refl
-      by (ruling.Accepted row closed) = refl
-
-  numbers_so : verdict_numbers v ≡ judged_numbers (ruled text)
-  numbers_so = ap verdict_numbers f ∙ by r ∙ ap judged_numbers e
-    where
-      by : (r : Ruling) → verdict_numbers (verdict_of r) ≡ judged_numbers (ruled_as text t r)
-      by (ruling.Refused n p) = refl
-      by (ruling.Accepted row closed) = refl
-
-  pub verdict_ruled : (v ≡ rules_verdict text) × (verdict_numbers v ≡ judged_numbers (ruled text))
-  verdict_ruled = (verdict_so, numbers_so)
+  pub worked_so : Worked text t₀ t r
+  worked_so =
+      record {
+        long = x.long;
+        held = read (λ y. Held text t r) (λ b n q. held_of text t (x.each b n l q));
+        words = λ n p q. absurd (let z : Accepted ≡ Refused n p = words ∙ q in cc);
+        sentences = λ n p q. read (λ y. y ≡ stop n p → t ≡ t₀) (λ b m e z. absurd cc) q;
+      }

@@ -13,7 +13,7 @@ use Rattle.lex.specs.Quote.{closes, closing}
 use Rattle.lex.specs.Token.{name_word, name_token, number_token, string_token, mark_token, token_from, token_at}
 use Rattle.operators.specs.Operators.{result_of}
 use Rattle.expressions.specs.Words.{part_of, in_row, operator_in}
-use Rattle.expressions.specs.Value.{earlier, given, settled, joined, evaluated}
+use Rattle.expressions.specs.Value.{given, settled, joined, evaluated}
 use Rattle.expressions.specs.Grammar.{joined_from, row_at, closed_at, operand_with, operand_at, expression_at, number_at}
 use Rattle.parts.specs.Reading.{Parsed, ok, stop, and_then, mapped}
 use Rattle.parts.specs.Words.{is_name, kind_of, is_kind, is_default, is_property, is_mark, is_end}
@@ -87,5 +87,5 @@ cases =
     []
 
 pub worked : map (λ c. answer (bytes c.text) (file_at (bytes c.text))) cases ≡ map (λ c. c.due) cases
-unfolding cases is_within is_blank is_line_end is_letter is_name_byte is_number_byte is_hex_digit is_spaced_digit run every same_bytes chosen entry keyword_of property_of mark_of digit_value next_value value_from fitting radix_of plain_digits spaced_digits width_of sized_number sized_at hex_prefixed hex_number number_of blanks next_from closes closing name_word name_token number_token string_token mark_token token_from token_at and_then mapped is_name kind_of is_kind is_default is_property is_mark is_end closed_by name_at result_of part_of in_row operator_in earlier given settled joined evaluated joined_from row_at closed_at operand_with operand_at expression_at number_at array_rest_at array_at suffix_at set_suffix with_suffix bare_at instance_at parted_at listed_at value_at setting_at property_word_at property_at header_rest_at header_at starts_instances instances_from instances_at instance_statement_at statement_at tail_at element_at elements_at definition_with definition_at definitions_from file_at is_allowed is_width is_power_to setting_as setting_of refusal_in ranged settled_fault is_size is_range suffix_range is_barred instance_fault bytes_of same_name is_among is_readable is_writable has_unusable_effect some is_reset_wide is_outside is_read_write_pair is_overlap overlaps is_changed_by_access spans_parts onward unless lookup may_define may_hold is_bad_map assigned judge_value judge_known judge_property judge_instances judge_use declared judge_definition judge_elem judge_body judge_file judge assign nearest component_of field_at breaks fields_from register_fault closing_fault judge_setting closed
+unfolding cases is_within is_blank is_line_end is_letter is_name_byte is_number_byte is_hex_digit is_spaced_digit run every same_bytes chosen entry keyword_of property_of mark_of digit_value next_value value_from fitting radix_of plain_digits spaced_digits width_of sized_number sized_at hex_prefixed hex_number number_of blanks next_from closes closing name_word name_token number_token string_token mark_token token_from token_at and_then mapped is_name kind_of is_kind is_default is_property is_mark is_end closed_by name_at result_of part_of in_row operator_in given settled joined evaluated joined_from row_at closed_at operand_with operand_at expression_at number_at array_rest_at array_at suffix_at set_suffix with_suffix bare_at instance_at parted_at listed_at value_at setting_at property_word_at property_at header_rest_at header_at starts_instances instances_from instances_at instance_statement_at statement_at tail_at element_at elements_at definition_with definition_at definitions_from file_at is_allowed is_width is_power_to setting_as setting_of refusal_in ranged settled_fault is_size is_range suffix_range is_barred instance_fault bytes_of same_name is_among is_readable is_writable has_unusable_effect some is_reset_wide is_outside is_read_write_pair is_overlap overlaps is_changed_by_access spans_parts onward unless lookup may_define may_hold is_bad_map assigned judge_value judge_known judge_property judge_instances judge_use declared judge_definition judge_elem judge_body judge_file judge assign nearest component_of field_at breaks fields_from register_fault closing_fault judge_setting closed
 worked = refl

@@ -1,12 +1,10 @@
 -- The rules 5 to 17, and 18 for definitions, as one walk over the syntax tree in text order: the first fault, or what the text means.
-use Rattle.std.specs.Prelude.{Bool, false, ◌||◌, not, List, [], ◌∷◌, ◌++◌, map, ℕ, ◌+◌, ◌-◌, eqb, leb, ltb, length}
+use Rattle.std.specs.Prelude.{Bool, false, ◌||◌, not, List, [], ◌∷◌, ◌++◌, map, ℕ, ◌+◌, ◌-◌, eqb, leb, ltb, length, Option, Some, None}
 use Rattle.std.specs.Prelude.{if◌then◌else◌}
 use Rattle.parts.specs.declared.Name.{Name}
 use Rattle.parts.specs.declared.Kind.{Kind}
 use Rattle.parts.specs.declared.Instance.{Instance}
 use Rattle.parts.specs.declared.Header.{Header}
-use Rattle.parts.specs.declared.DefinedName.{DefinedName}
-use Rattle.parts.specs.declared.DefinedName.TheVariants.{Unnamed, Named}
 use Rattle.parts.specs.declared.Assignment.{Assignment}
 use Rattle.suffixes.specs.Suffixes.{instance_fault}
 use Rattle.syntax.specs.Tree.{Elem, definition, instances, property, Body, close, more}
@@ -15,8 +13,6 @@ use Rattle.basics.specs.Judged.{Judged, fault, fine, onward, unless, found}
 use Rattle.basics.specs.Given.{is_given}
 use Rattle.properties.specs.Assigned.{nearest, no_settings, nothing_assigned}
 use Rattle.properties.specs.Properties.{judge_property}
-use Rattle.basics.specs.declared.Given.{Given}
-use Rattle.basics.specs.declared.Given.TheVariants.{Nothing, Number}
 use Rattle.properties.specs.declared.Settings.{Settings}
 use Rattle.properties.specs.declared.Assigned.{Assigned}
 use Rattle.components.specs.Components.{component_of, kind_of}
@@ -25,15 +21,13 @@ use Rattle.cells.specs.Definitions.{Child, Definition, definition_of, names_of, 
 use Rattle.basics.specs.Limits.{definition_limit}
 use Rattle.closing_rules.specs.Registers.{closing_fault}
 use Rattle.scopes.specs.Places.{may_define, may_hold, is_bad_map}
-use Rattle.scopes.specs.declared.Enclosing.{Enclosing}
-use Rattle.scopes.specs.declared.Enclosing.TheVariants.{Root, Inside}
 
 -- What is known of a text at a place: the types of this body, declared last first; the definitions that are closed; the address map,
 -- by its definition's number; and how many definitions were opened.
 pub record Known : Type 0 where
   pub here : List VisibleType
   pub table : List Definition
-  pub map : Given
+  pub map : Option ℕ
   pub opened : ℕ
 
 -- and of this body: its settings and defaults, and its instances
@@ -43,7 +37,7 @@ pub record State : Type 0 where
   pub known : Known
 
 -- a body that opens
-abbrev pub opening : List Definition → Given → ℕ → State
+abbrev pub opening : List Definition → Option ℕ → ℕ → State
 opening table map n = record { assigned = nothing_assigned; held = []; known = record { here = []; table = table; map = map; opened = n } }
 
 abbrev pub with_assigned : State → Assigned → State
@@ -56,7 +50,7 @@ abbrev pub with_known : State → Known → State
 with_known s k = record { assigned = s.assigned; held = s.held; known = k }
 
 -- 6 and 10 at the name, then 9 and 11: instances of the definition `n`, of this kind, behind those that the body holds
-unfoldable pub judge_instances : List ℕ → Enclosing → Kind → ℕ → List Instance → List Child → Judged (List Child)
+unfoldable pub judge_instances : List ℕ → Option Kind → Kind → ℕ → List Instance → List Child → Judged (List Child)
 judge_instances text b k n [] held = fine held
 judge_instances text b k n (i ∷ is) held =
     unless (is_among text i.name (names_of held)) 6 i.name.start
@@ -64,24 +58,24 @@ judge_instances text b k n (i ∷ is) held =
     (found (instance_fault k i) (judge_instances text b k n is (held ++ (record { instance = i; type = n } ∷ [])))))
 
 -- 5: an instance statement, by what its type's name means
-unfoldable pub judge_use : List ℕ → Enclosing → Name → List Instance → State → Given → Judged State
-judge_use text b n is s Nothing = fault 5 n.start
-judge_use text b n is s (Number d) =
+unfoldable pub judge_use : List ℕ → Option Kind → Name → List Instance → State → Option ℕ → Judged State
+judge_use text b n is s None = fault 5 n.start
+judge_use text b n is s (Some d) =
     onward (judge_instances text b (kind_of (definition_of s.known.table d).component) d is s.held) (λ held. fine (with_held s held))
 
 -- 7, 8, 9: a property statement; the grammar has none at the root
-unfoldable pub judge_setting : List ℕ → Enclosing → State → Assignment → Judged State
-judge_setting text Root s p = fault 7 p.start
-judge_setting text (Inside k) s p = onward (judge_property text k s.assigned p) (λ a. fine (with_assigned s a))
+unfoldable pub judge_setting : List ℕ → Option Kind → State → Assignment → Judged State
+judge_setting text None s p = fault 7 p.start
+judge_setting text (Some k) s p = onward (judge_property text k s.assigned p) (λ a. fine (with_assigned s a))
 
 -- 6, of a type
-abbrev pub type_twice : List ℕ → List VisibleType → DefinedName → Bool
-type_twice text here Unnamed = false
-type_twice text here (Named n) = is_given (lookup text n here)
+abbrev pub type_twice : List ℕ → List VisibleType → Option Name → Bool
+type_twice text here None = false
+type_twice text here (Some n) = is_given (lookup text n here)
 
-abbrev pub name_place : DefinedName → ℕ
-name_place Unnamed = 0
-name_place (Named n) = n.start
+abbrev pub name_place : Option Name → ℕ
+name_place None = 0
+name_place (Some n) = n.start
 
 -- the definitions that are closed when a body is, its own the last; and how many were opened
 pub record Made : Type 0 where
@@ -101,9 +95,9 @@ closed h outer s p =
     unless (ltb 0 n) n p (fine (record { table = table ++ (record { name = name_or h.name; component = c; instances = s.held } ∷ []); opened = s.known.opened }))
 
 -- "A type is visible after its closing brace"
-abbrev pub types_with : DefinedName → ℕ → List VisibleType → List VisibleType
-types_with Unnamed d here = here
-types_with (Named n) d here = record { name = n; row = d } ∷ here
+abbrev pub types_with : Option Name → ℕ → List VisibleType → List VisibleType
+types_with None d here = here
+types_with (Some n) d here = record { name = n; row = d } ∷ here
 
 unfoldable pub declared : State → Header → Made → State
 declared s h m =
@@ -112,13 +106,13 @@ declared s h m =
     (record {
       here = types_with h.name d s.known.here;
       table = m.table;
-      map = if eqb (rank h.kind) 0 then Number d else s.known.map;
+      map = if eqb (rank h.kind) 0 then Some d else s.known.map;
       opened = m.opened;
     })
 
 -- 10 and 18 at the kind word, 6 at the name; then the body; then the instances. "A default reaches definitions opened later in its body
 -- and inside those": a body gets the defaults that stand before it, and those around.
-unfoldable pub judge_definition : List ℕ → Enclosing → Settings → State → Header → List Instance → (Settings → State → Judged Made) → Judged State
+unfoldable pub judge_definition : List ℕ → Option Kind → Settings → State → Header → List Instance → (Settings → State → Judged Made) → Judged State
 judge_definition text b outer s h is body =
     unless (not (may_define b h.kind) || is_bad_map s.known.map h) 10 h.place
     (unless (leb definition_limit s.known.opened) 18 h.place
@@ -128,7 +122,7 @@ judge_definition text b outer s h is body =
 
 -- In a body, whose definition has the header `h`, the types from outside are `env` and the defaults from outside `outer`.
 unfoldable mutual
-  pub judge_elem : Elem → List ℕ → Enclosing → List VisibleType → Settings → State → Judged State
+  pub judge_elem : Elem → List ℕ → Option Kind → List VisibleType → Settings → State → Judged State
   judge_elem (definition h b is) text place env outer s =
       judge_definition text place outer s h is (λ defaults state. judge_body b text h (s.known.here ++ env) defaults state)
   judge_elem (instances n is) text place env outer s = judge_use text place n is s (lookup text n (s.known.here ++ env))
@@ -136,7 +130,7 @@ unfoldable mutual
 
   pub judge_body : Body → List ℕ → Header → List VisibleType → Settings → State → Judged Made
   judge_body (close p) text h env outer s = closed h outer s p
-  judge_body (more e rest) text h env outer s = onward (judge_elem e text (Inside h.kind) env outer s) (λ s'. judge_body rest text h env outer s')
+  judge_body (more e rest) text h env outer s = onward (judge_elem e text (Some h.kind) env outer s) (λ s'. judge_body rest text h env outer s')
 
 -- what an accepted text means: its definitions, and the number of its address map
 pub record Meaning : Type 0 where
@@ -144,14 +138,14 @@ pub record Meaning : Type 0 where
   pub map : ℕ
 
 -- 10 for "no addrmap", at the text's end
-abbrev pub meaning_of : Known → Given → ℕ → Judged Meaning
-meaning_of k Nothing p = fault 10 p
-meaning_of k (Number d) p = fine (record { table = k.table; map = d })
+abbrev pub meaning_of : Known → Option ℕ → ℕ → Judged Meaning
+meaning_of k None p = fault 10 p
+meaning_of k (Some d) p = fine (record { table = k.table; map = d })
 
 -- a file: its definitions at the root, and its address map
 unfoldable pub judge_file : Body → List ℕ → State → Judged Meaning
 judge_file (close p) text s = meaning_of s.known s.known.map p
-judge_file (more e rest) text s = onward (judge_elem e text Root [] no_settings s) (λ s'. judge_file rest text s')
+judge_file (more e rest) text s = onward (judge_elem e text None [] no_settings s) (λ s'. judge_file rest text s')
 
 unfoldable pub judge : List ℕ → Body → Judged Meaning
-judge text b = judge_file b text (opening [] Nothing 0)
+judge text b = judge_file b text (opening [] None 0)

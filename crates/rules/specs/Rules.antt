@@ -1,28 +1,23 @@
 -- The rules stage of a text: the first refusal by words, sentences and rules, or what the text means; and what the cells say of it.
 use Rattle.std.specs.Prelude.{◌≡◌, List, [], ◌∷◌, ℕ, zero, suc, ◌+◌, ◌≤◌, length}
-use Rattle.lex.specs.Words.{refused, words_verdict}
-use Rattle.lex.specs.declared.Place.{Place}
-use Rattle.lex.specs.declared.Verdict.{Verdict}
-use Rattle.lex.specs.declared.Verdict.TheVariants.{Accepted, Refused}
+use Rattle.lex.specs.Words.{words_verdict}
 use Rattle.parts.specs.Reading.{Parsed, ok, stop}
 use Rattle.parts.specs.Parts.{instance_at}
 use Rattle.parts.specs.declared.Instance.{Instance}
 use Rattle.syntax.specs.Tree.{Body}
 use Rattle.syntax.specs.Grammar.{file_at}
-use Rattle.basics.specs.Judged.{Judged, fault, fine}
+use Rattle.basics.specs.Judged.{Judged, fault, fine, Verdict, Accepted, Refused}
 use Rattle.basics.specs.Slices.{cell_of}
 use Rattle.cells.specs.Cells.{entries_at, instance_room, component_in, first_in, count_in, name_in, place_in, row_in}
 use Rattle.cells.specs.Definitions.{Child, Definition}
 use Rattle.cells.specs.Relation.{Holds}
-use Rattle.scopes.specs.declared.Ruling.{Ruling}
-use Rattle.scopes.specs.declared.Ruling.TheVariants as ruling
 use Rattle.basics.specs.Limits.{definition_limit}
 use Rattle.rules.specs.Judge.{Meaning, judge}
 
 -- "1; then words (2, 4); then 3 and 18 for bodies, whichever stands first; then 5 to 17 and 18 for definitions"
 abbrev pub after_words : Verdict → Judged Meaning → Judged Meaning
 after_words Accepted rest = rest
-after_words (Refused n p) rest = fault n p.at
+after_words (Refused n p) rest = fault n p
 
 abbrev pub after_sentences : List ℕ → Parsed Body → Judged Meaning
 after_sentences text (ok b n) = judge text b
@@ -33,7 +28,7 @@ ruled text = after_words (words_verdict text) (after_sentences text (file_at tex
 
 -- the first refusal, or none
 abbrev pub judged_verdict : Judged Meaning → Verdict
-judged_verdict (fault n p) = refused n p
+judged_verdict (fault n p) = Refused n p
 judged_verdict (fine m) = Accepted
 
 unfoldable pub rules_verdict : List ℕ → Verdict
@@ -63,20 +58,20 @@ definitions_in text t r zero = []
 definitions_in text t r (suc count) = definition_in text t r ∷ definitions_in text t (suc r) count
 
 -- what an answer means, with the cells
-abbrev pub ruled_as : List ℕ → List ℕ → Ruling → Judged Meaning
-ruled_as text t (ruling.Refused n p) = fault n p
-ruled_as text t (ruling.Accepted row closed) = fine (record { table = definitions_in text t 0 closed; map = row })
+abbrev pub ruled_as : List ℕ → List ℕ → Judged (ℕ × ℕ) → Judged Meaning
+ruled_as text t (fault n p) = fault n p
+ruled_as text t (fine (row, closed)) = fine (record { table = definitions_in text t 0 closed; map = row })
 
 -- where a text is accepted, its cells hold its definitions
-pub data Held (text t : List ℕ) : Ruling → Type 0 where
-  held_not : {n p : ℕ} → Held text t (ruling.Refused n p)
-  held_all : {row closed : ℕ} → closed ≤ definition_limit → Holds text t closed instance_room (definitions_in text t 0 closed) → Held text t (ruling.Accepted row closed)
+pub data Held (text t : List ℕ) : Judged (ℕ × ℕ) → Type 0 where
+  held_not : {n p : ℕ} → Held text t (fault n p)
+  held_all : {row closed : ℕ} → closed ≤ definition_limit → Holds text t closed instance_room (definitions_in text t 0 closed) → Held text t (fine (row, closed))
 
 -- What the cells hold after each answer: always as many; of an accepted text its definitions; of a text that words or sentences refuse
 -- what they held before. What the walk wrote of a text that 5 to 18 refuse, and what stands in cells that the definitions of an accepted
 -- one don't use, nothing asks for.
-pub record Worked (text before after : List ℕ) (r : Ruling) : Type 0 where
+pub record Worked (text before after : List ℕ) (r : Judged (ℕ × ℕ)) : Type 0 where
   pub long : length after ≡ length before
   pub held : Held text after r
-  pub words : (n : ℕ) (p : Place) → words_verdict text ≡ Refused n p → after ≡ before
+  pub words : (n p : ℕ) → words_verdict text ≡ Refused n p → after ≡ before
   pub sentences : (n p : ℕ) → file_at text ≡ stop n p → after ≡ before

@@ -2,42 +2,20 @@
 // first refusal by the words or, if they pass, by the sentences. tests/sentence_cases.py makes the cases.
 #![tactic(auto)]
 
-use case_io::{LONGEST_TEXT, MOST_CASES};
-use lex::Verdict;
+use basics::Refusal;
 use std::io;
-use std::io::{Read, Write};
+use std::io::Write;
 
-fn first_refusal(text: &[u8]) -> Verdict {
-    let words = lex::first_refusal(text);
-    match words {
-        Verdict::Accepted => syntax::first_refusal(text),
-        Verdict::Refused(_, _) => words,
-    }
+fn first_refusal(text: &[u8]) -> Result<(), Refusal> {
+    lex::first_refusal(text)?;
+    syntax::first_refusal(text)
 }
 
-// Runs the next case; answers whether there was one.
-fn run_case<R: Read, W: Write>(
-    input: &mut R,
-    out: &mut W,
-    case: u64,
-    room: &mut [u8],
-) -> io::Result<bool> {
-    let text = case_io::read_text(input, room)?;
-    if text.whole {
-        case_io::put_number(out, b"", case)?;
-        case_io::put_verdict(out, first_refusal(&room[..text.length]))?;
-    }
-    Ok(text.whole)
+fn show_case<W: Write>(out: &mut W, case: u64, text: &[u8]) -> io::Result<()> {
+    case_io::put_number(out, b"", case)?;
+    case_io::put_verdict(out, first_refusal(text))
 }
 
 fn main(rt: HostRuntime) -> io::Result<()> {
-    let mut room = [0u8; LONGEST_TEXT];
-    let mut input = rt.reader();
-    let mut out = io::writer(&rt);
-    for case in 0..MOST_CASES {
-        if !run_case(&mut input, &mut out, case, &mut room)? {
-            break;
-        }
-    }
-    Ok(())
+    case_io::run_cases(&mut rt.reader(), &mut io::writer(&rt), show_case)
 }

@@ -1,73 +1,47 @@
 -- The instances of a regfile or map of ready cells, over all shapes: what a walk over the definitions asks for.
-use mathlib.Core.Path.{◌≡◌, refl, ap, ◌∙◌}
+use mathlib.Core.Path.{◌≡◌}
 use mathlib.Core.List.{List, [], ◌∷◌}
 use mathlib.Core.Bool.{false}
 use Prim.Native.Nat.{ℕ, ◌<◌}
 use native.Mathlib.Omega.{arith}
 use Rattle.property_values.specs.Settings.{is_field}
 use Rattle.suffixes.specs.Suffixes.{instance_fault}
-use Rattle.basics.specs.declared.Fault.TheVariants.{None}
-use Rattle.basics.specs.declared.Given.{Given}
 use Rattle.components.specs.Components.{kind_of}
 use Rattle.fields.specs.declared.Offset.{Offset}
 use Rattle.components.specs.declared.Component.{Component}
-use Rattle.cells.specs.Cells.{instance_room}
 use Rattle.cells.specs.Definitions.{Child, definition_of}
-use Rattle.cells.specs.Relation.{IsRow}
 use Rattle.definition_laws.specs.Sensible.{ChildFits, ChildrenFit, children_none, children_more}
-use Rattle.layout.specs.Layout.{laid, bottom, shape_at, laid_from, largest_access, group_shape, shapes_from, cut_shape, cut_offset, cut_laid}
+use Rattle.layout.specs.Layout.{laid, shape_at, shapes_from, cut_shape, cut_offset, cut_laid}
 use Rattle.layout.specs.Fitting.{Layable}
-use Rattle.layout.specs.declared.Shape.{Shape}
-use Rattle.layout.specs.declared.Laid.{Laid}
 use Rattle.layout.proofs.Laws.{cut-laid}
 use Rattle.sizes.specs.declared.Extent.{Extent}
 use Rattle.sizes.specs.Ready.{known, Ready}
 use Rattle.sizes.specs.Shapes.{GroupOf, GroupRow, all_shapes}
 use Rattle.sizes.proofs.Rows.{RowFits, Positive, child_addressed, child_positive, child_fitting}
 use Rattle.sizes.proofs.Laws.{ready_is_row, ready_row}
+use Rattle.basics.specs.Judged.{Accepted}
+use Rattle.std.specs.Prelude.{Option}
 
 -- an instance in the body of a row, whose own alignment is `a`
-pub record ReadyChild (text t : List ℕ) (e : Extent) (row : ℕ) (a : Given) (c : Child) : Type 0 where
+pub record ReadyChild (text t : List ℕ) (e : Extent) (row : ℕ) (a : Option ℕ) (c : Child) : Type 0 where
   pub below : c.type < row
-  pub is_row : IsRow text t instance_room c.type (definition_of (known text t e) c.type)
   pub addressed : is_field (kind_of (definition_of (known text t e) c.type).component) ≡ false
-  pub sound : instance_fault (kind_of (definition_of (known text t e) c.type).component) c.instance ≡ None
+  pub sound : instance_fault (kind_of (definition_of (known text t e) c.type).component) c.instance ≡ Accepted
   pub positive : Positive (shape_at (all_shapes text t e) c.type)
   pub fitting : Layable a (cut_shape (shape_at (all_shapes text t e) c.type)) c.instance
 
-pub data ReadyChildren (text t : List ℕ) (e : Extent) (row : ℕ) (a : Given) : List Child → Type 0 where
+pub data ReadyChildren (text t : List ℕ) (e : Extent) (row : ℕ) (a : Option ℕ) : List Child → Type 0 where
   ready_none : ReadyChildren text t e row a []
   ready_more : {c : Child} {cs : List Child} → ReadyChild text t e row a c → ReadyChildren text t e row a cs → ReadyChildren text t e row a (c ∷ cs)
 
 -- where it lies: what is made of cut numbers, cut again, is what is made of the true ones, cut
-pub ready_laid : (text t : List ℕ) (e : Extent) (row : ℕ) (a : Given) (c : Child) (end : Offset) → ReadyChild text t e row a c
+pub ready_laid : (text t : List ℕ) (e : Extent) (row : ℕ) (a : Option ℕ) (c : Child) (end : Offset) → ReadyChild text t e row a c
     → cut_laid (laid e.mode a (cut_shape (shape_at (all_shapes text t e) c.type)) c.instance (cut_offset end)) ≡ cut_laid (laid e.mode a (shape_at (all_shapes text t e) c.type) c.instance end)
 ready_laid text t e row a c end r =
     cut-laid e.mode a (shape_at (all_shapes text t e) c.type) c.instance end r.fitting.aligned r.positive.size r.positive.access
     (kind_of (definition_of (known text t e) c.type).component) r.addressed r.sound
 
--- shapes that agree at the types of some instances
-data Alike (s z : List Shape) : List Child → Type 0 where
-  alike_none : Alike s z []
-  alike_more : {c : Child} {cs : List Child} → shape_at s c.type ≡ shape_at z c.type → Alike s z cs → Alike s z (c ∷ cs)
-
-alike_laid : (m : ℕ) (a : Given) (s z : List Shape) (end : Offset) {cs : List Child} → Alike s z cs → laid_from m a s end cs ≡ laid_from m a z end cs
-unfolding laid_from
-alike_laid m a s z end alike_none = refl
-alike_laid m a s z end (alike_more {c = c} {cs = cs} e r) =
-    let l : Laid = laid m a (shape_at z c.type) c.instance end in
-    ap (λ (x : Shape). laid m a x c.instance end ∷ laid_from m a s (laid m a x c.instance end).end cs) e
-    ∙ ap (λ (ls : List Laid). l ∷ ls) (alike_laid m a s z l.end r)
-
-alike_access : (s z : List Shape) {cs : List Child} → Alike s z cs → largest_access s cs ≡ largest_access z cs
-unfolding largest_access
-alike_access s z alike_none = refl
-alike_access s z (alike_more e r) = rw (e, alike_access s z r)
-
-group_same : (m : ℕ) (a : Given) (cs : List Child) (s z : List Shape) → laid_from m a s bottom cs ≡ laid_from m a z bottom cs → largest_access s cs ≡ largest_access z cs → group_shape m a s cs ≡ group_shape m a z cs
-group_same m a cs s z p q = rw (p, q)
-
-module _ (text t : List ℕ) (e : Extent) (row : ℕ) (a : Given) (ready : Ready text t e) (low : row < e.rows) (f : RowFits e.mode (known text t e) row) where
+module _ (text t : List ℕ) (e : Extent) (row : ℕ) (a : Option ℕ) (ready : Ready text t e) (low : row < e.rows) (f : RowFits e.mode (known text t e) row) where
   abbrev holder : Component
   holder = (definition_of (known text t e) row).component
 
@@ -78,7 +52,6 @@ module _ (text t : List ℕ) (e : Extent) (row : ℕ) (a : Given) (ready : Ready
       let w : shape_at (shapes_from e.mode [] f.before) c.type ≡ shape_at (all_shapes text t e) c.type = f.same c.type l in
       record {
         below = l;
-        is_row = ready_is_row text t e c.type ready (omega (arith, l, low));
         addressed = rw z at (child_addressed e.mode f.before holder c f.sensible g x);
         sound = rw z at x.sound;
         positive = rw w at (child_positive e.mode f.before holder c f.sensible g x);
@@ -89,12 +62,8 @@ module _ (text t : List ℕ) (e : Extent) (row : ℕ) (a : Given) (ready : Ready
   children_ready g children_none = ready_none
   children_ready g (children_more {c = c} x xs) = ready_more (child_ready c g x) (children_ready g xs)
 
-  children_alike : {cs : List Child} → ChildrenFit f.before (definition_of (known text t e) row).component cs → Alike (shapes_from e.mode [] f.before) (all_shapes text t e) cs
-  children_alike children_none = alike_none
-  children_alike (children_more {c = c} x xs) = alike_more (f.same c.type (omega (arith, x.before, f.count))) (children_alike xs)
-
 -- a row of a regfile or a map
-module _ (text t : List ℕ) (e : Extent) (row : ℕ) (a : Given) (ready : Ready text t e) (low : row < e.rows) (g : GroupRow t row a) where
+module _ (text t : List ℕ) (e : Extent) (row : ℕ) (a : Option ℕ) (ready : Ready text t e) (low : row < e.rows) (g : GroupRow t row a) where
   pub ready_group_of : GroupOf (definition_of (known text t e) row).component a
   ready_group_of = rw (← (ready_is_row text t e row ready low).component) g
 

@@ -1,18 +1,16 @@
 -- Laws of ready cells and of the shapes in cells, in the form that the proofs use.
-use mathlib.Core.Bool.{Bool, true, false}
+use mathlib.Core.Bool.{true}
 use mathlib.Core.Path.{◌≡◌, refl, sym, ap, ◌∙◌}
 use mathlib.Core.List.{List, [], ◌∷◌, ◌++◌}
-use Prim.Native.Nat.{ℕ, zero, suc, ◌+◌, ◌-◌, ◌*◌, ◌/◌, ◌^◌, ◌<◌, ◌≤◌}
+use mathlib.Core.Logic.{◌⊎◌, inl, inr}
+use Prim.Native.Nat.{ℕ, zero, suc, ◌+◌, ◌*◌, ◌/◌, ◌<◌, ◌≤◌}
 use native.Mathlib.Numerals.{add-one}
 use native.Mathlib.Omega.{arith}
-use lib.Dec.{leb}
 use lib.ListN.{length, set, get_or, take, drop, length-append, length-drop}
 use lib.Seq.{length-take-le, take_all, take-suc, drop-cons, append_snoc, set_at, get_or-take}
-use borrow.Author.Tests.{leb-true, leb-false}
 use Rattle.basics.specs.Limits.{definition_limit}
 use Rattle.parts.specs.declared.Instance.{Instance}
 use Rattle.fields.specs.Codes.{is_width}
-use Rattle.basics.specs.declared.Given.{Given}
 use Rattle.components.specs.Components.{kind_of}
 use Rattle.fields.specs.declared.Offset.{Offset}
 use Rattle.fields.specs.declared.FieldType.{FieldType}
@@ -22,14 +20,12 @@ use Rattle.components.specs.declared.Component.TheVariants as component
 use Rattle.basics.specs.Slices.{cell_of}
 use Rattle.cells.specs.Cells.{entries_at, instance_room, component_in, first_in, count_in}
 use Rattle.cells.specs.Decoded.{child_in}
-use Rattle.cells.specs.declared.ChildReading.{ChildReading}
-use Rattle.cells.specs.declared.ChildReading.TheVariants as child_reading
 use Rattle.cells.proofs.Laws.{child_entry}
 use Rattle.cells.specs.Definitions.{Child, Definition, definition_of}
 use Rattle.cells.specs.Relation.{IsEntry, Block, block_end, block_on, IsRow}
 use Rattle.definition_laws.specs.Sensible.{ValuesFit, register_fits, ChildFits, ChildrenFit, children_more}
 use Rattle.capped.specs.Offsets.{cap, cut, larger}
-use Rattle.capped.proofs.Laws.{cut_bound, cut_low, cut_stays, cut-larger, larger_left, larger_right}
+use Rattle.capped.proofs.Laws.{cut_bound, cut_low, cut_stays, cut-larger}
 use Rattle.layout.specs.Layout.{laid, bottom, no_shape, shape_at, laid_from, highest_end, largest_access, group_shape, shape_of, shapes_from, cut_shape, cut_offset, cut_laid}
 use Rattle.layout.specs.Fitting.{Layable}
 use Rattle.layout.specs.declared.Shape.{Shape}
@@ -39,6 +35,14 @@ use Rattle.sizes.specs.declared.Extent.{Extent}
 use Rattle.sizes.specs.Ready.{known, Ready}
 use Rattle.sizes.specs.Shapes.{shape_width, shapes_size, shape_in, shape_cells, ShapesIn, GroupOf, of_regfile, of_map, GroupRow, all_shapes, ShapesBefore, RowShape}
 use Rattle.sizes.proofs.Rows.{shapes_length, RowFits, row_fits, Positive, width_range, group_aligned, group_shape_lem, child_addressed, child_positive, child_fitting}
+use Rattle.std.specs.Prelude.{Option}
+use Rattle.basics.specs.Judged.{Judged, fine, fault}
+
+-- the parts of two pairs that are the same
+pub fine_parts : {A B : Type 0} {a x : A} {b y : B} → ◌≡◌ {A = Judged (A × B)} (fine (a, b)) (fine (x, y)) → (a ≡ x) × (b ≡ y)
+fine_parts {A} {B} {a} {x} {b} {y} e =
+    let p : ◌≡◌ {A = A × B} (a, b) (x, y) = cc in
+    (ap (λ (q : A × B). q.0) p, ap (λ (q : A × B). q.1) p)
 
 -- a row of ready cells
 module _ (text t : List ℕ) (e : Extent) (row : ℕ) (ready : Ready text t e) (low : row < e.rows) where
@@ -66,45 +70,15 @@ module _ (text t : List ℕ) (e : Extent) (row : ℕ) (ready : Ready text t e) (
   pub ready_span : (row < definition_limit) × (first_in t row + count_in t row ≤ instance_room)
   ready_span = (ready_low, ready_within)
 
--- the shape of a row in cells
-pub shape_read : (s : List ℕ) (r : ℕ) {a b : ℕ} → a ≡ cell_of s (r * 2) → b ≡ cell_of s (r * 2 + 1) → record { size = a; access = b } ≡ shape_in s r
-unfolding shape_in
-shape_read s r e f = rw (e, f)
-
-pub shape_put : (s : List ℕ) (r x y : ℕ) {t u : List ℕ} → t ≡ set s (r * 2) x → u ≡ set t (r * 2 + 1) y → u ≡ set (set s (r * 2) x) (r * 2 + 1) y
-shape_put s r x y e f = rw (f, e)
-
--- the larger of three numbers
-larger_three : (x y z : ℕ) → larger (larger x y) z ≡ larger x (larger y z)
-larger_three x y z = by (leb x y) (leb y z) refl refl
-  where
-    by : (a b : Bool) → leb x y ≡ a → leb y z ≡ b → larger (larger x y) z ≡ larger x (larger y z)
-    by true true e f =
-        let p : x ≤ y = leb-true x y e in
-        let q : y ≤ z = leb-true y z f in
-        rw (larger_right x y p, larger_right y z q, larger_right x z (omega (arith, p, q)))
-    by true false e f =
-        let p : x ≤ y = leb-true x y e in
-        let q : z < y = leb-false y z f in
-        rw (larger_right x y p, larger_left y z (omega (arith, q)), larger_right x y p)
-    by false true e f =
-        let p : y < x = leb-false x y e in
-        let q : y ≤ z = leb-true y z f in
-        rw (larger_left x y (omega (arith, p)), larger_right y z q)
-    by false false e f =
-        let p : y < x = leb-false x y e in
-        let q : z < y = leb-false y z f in
-        rw (larger_left x y (omega (arith, p)), larger_left y z (omega (arith, q)), larger_left x z (omega (arith, p, q)), larger_left x y (omega (arith, p)))
-
 -- one more, cut
 larger-cut : (n x y : ℕ) → larger (larger n (cut x)) (cut y) ≡ larger n (cut (larger x y))
-larger-cut n x y = larger_three n (cut x) (cut y) ∙ ap (larger n) (cut-larger x y)
+larger-cut n x y = omega (arith, cut-larger x y)
 
 larger_none : (n : ℕ) → n ≡ larger n (cut 0)
-larger_none n = let z : cut 0 ≡ 0 = cut_low 0 (omega arith) in rw z (sym (larger_left n 0 (omega arith)))
+larger_none n = omega (arith, cut_low 0)
 
 larger_first : (n : ℕ) → larger 0 n ≡ n
-larger_first n = larger_right 0 n (omega arith)
+larger_first n = omega arith
 
 -- the shapes of the rows before one are those of its definition's table
 stored_shape : (text t s : List ℕ) (e : Extent) (row : ℕ) (before : ShapesBefore text t s e row) (f : RowFits e.mode (known text t e) row) (r : ℕ) → r < row
@@ -112,9 +86,8 @@ stored_shape : (text t s : List ℕ) (e : Extent) (row : ℕ) (before : ShapesBe
 stored_shape text t s e row before f r l = before.stored.each r l ∙ ap cut_shape (before.each r l ∙ sym (f.same r l))
 
 -- the instances of a body that are left to lay, behind the offset `behind`, whose cut is known
-pub record Laying (text t s : List ℕ) (e : Extent) (row : ℕ) (a : Given) (to i : ℕ) (end : Offset) (size access : ℕ) : Type 0 where
+pub record Laying (text t s : List ℕ) (e : Extent) (row : ℕ) (a : Option ℕ) (to i : ℕ) (end : Offset) (size access : ℕ) : Type 0 where
   pub stored : ShapesBefore text t s e row
-  pub low : to < 2 ^ 64
   pub fits : RowFits e.mode (known text t e) row
   pub group : GroupOf (definition_of (known text t e) row).component a
   pub rest : List Child
@@ -126,7 +99,7 @@ pub record Laying (text t s : List ℕ) (e : Extent) (row : ℕ) (a : Given) (to
   pub sized : larger size (cut (highest_end (laid_from e.mode a (shapes_from e.mode [] fits.before) behind rest)).0) ≡ cut (shape_at (all_shapes text t e) row).size
   pub accessed : larger access (cut (largest_access (shapes_from e.mode [] fits.before) rest)) ≡ cut (shape_at (all_shapes text t e) row).access
 
-module _ (text t s : List ℕ) (e : Extent) (row : ℕ) (a : Given) where
+module _ (text t s : List ℕ) (e : Extent) (row : ℕ) (a : Option ℕ) where
   pub laying_start : {from to : ℕ} → Ready text t e → row < e.rows → ShapesBefore text t s e row → GroupRow t row a → from ≡ entries_at + first_in t row → to ≡ from + count_in t row
       → Laying text t s e row a to from (record { 0 = 0 }) 0 0
   laying_start {from} {to} ready low stored g p q =
@@ -137,7 +110,6 @@ module _ (text t s : List ℕ) (e : Extent) (row : ℕ) (a : Given) where
       let z : shape_at (all_shapes text t e) row ≡ group_shape e.mode a shapes d.instances = f.shape ∙ group_shape_lem e.mode shapes d.instances k in
       record {
         stored = stored;
-        low = omega (arith, p, q, ready_within text t e row ready low);
         fits = f;
         group = k;
         rest = d.instances;
@@ -169,11 +141,11 @@ pub none_left : {text t : List ℕ} {i to : ℕ} {rest : List Child} → to ≤ 
 none_left l e block_end = refl
 none_left l e (block_on x b) = absurd (omega arith)
 
-same_made : (m : ℕ) (a : Given) {s z : Shape} {i j : Instance} {end behind : Offset} → s ≡ z → i ≡ j → end ≡ behind → cut_laid (laid m a s i end) ≡ cut_laid (laid m a z j behind)
+same_made : (m : ℕ) (a : Option ℕ) {s z : Shape} {i j : Instance} {end behind : Offset} → s ≡ z → i ≡ j → end ≡ behind → cut_laid (laid m a s i end) ≡ cut_laid (laid m a z j behind)
 same_made m a p q r = rw (p, q, r)
 
 -- one instance more, laid
-module _ (m : ℕ) (a : Given) (shapes : List Shape) (end : Offset) (c : Child) (cs : List Child) where
+module _ (m : ℕ) (a : Option ℕ) (shapes : List Shape) (end : Offset) (c : Child) (cs : List Child) where
   highest_more : (highest_end (laid_from m a shapes end (c ∷ cs))).0
       ≡ larger (laid m a (shape_at shapes c.type) c.instance end).end.0 (highest_end (laid_from m a shapes (laid m a (shape_at shapes c.type) c.instance end).end cs)).0
   unfolding laid_from highest_end
@@ -183,7 +155,7 @@ module _ (m : ℕ) (a : Given) (shapes : List Shape) (end : Offset) (c : Child) 
   unfolding largest_access
   access_more = refl
 
-highest_none : (m : ℕ) (a : Given) (shapes : List Shape) (end : Offset) → (highest_end (laid_from m a shapes end [])).0 ≡ 0
+highest_none : (m : ℕ) (a : Option ℕ) (shapes : List Shape) (end : Offset) → (highest_end (laid_from m a shapes end [])).0 ≡ 0
 unfolding laid_from highest_end
 highest_none m a shapes end = refl
 
@@ -191,7 +163,7 @@ access_none : (shapes : List Shape) → largest_access shapes [] ≡ 0
 unfolding largest_access
 access_none shapes = refl
 
-module _ (text t s : List ℕ) (e : Extent) (row : ℕ) (a : Given) {to i : ℕ} {end : Offset} {size access : ℕ} (l : Laying text t s e row a to i end size access) where
+module _ (text t s : List ℕ) (e : Extent) (row : ℕ) (a : Option ℕ) {to i : ℕ} {end : Offset} {size access : ℕ} (l : Laying text t s e row a to i end size access) where
   pub laying_end : to ≤ i → RowShape text t e row (record { size = size; access = access })
   laying_end h =
       let table : List Shape = shapes_from e.mode [] l.fits.before in
@@ -207,28 +179,22 @@ module _ (text t s : List ℕ) (e : Extent) (row : ℕ) (a : Given) {to i : ℕ}
   laying_low = rw l.cut_end (cut_bound l.behind.0)
 
   module _ (h : i < to) where
-    pub laying_steps : i + 1 < 2 ^ 64
-    laying_steps = omega (arith, h, l.low)
-
-    pub laying_falls : to - (i + 1) < to - i
-    laying_falls = omega (arith, h)
-
     ahead : Ahead text t l.fits.before (definition_of (known text t e) row).component i l.rest
     ahead = ahead_of h l.until l.block l.children
 
-    module _ {y : ChildReading} (r : y ≡ child_in text (cell_of t i)) where
-      same_child : y ≡ child_reading.Done ahead.child.type ahead.child.instance
+    module _ {y : Judged (ℕ × Instance)} (r : y ≡ child_in text (cell_of t i)) where
+      same_child : y ≡ fine (ahead.child.type, ahead.child.instance)
       same_child = r ∙ child_entry text (cell_of t i) ahead.entry
 
-      pub laying_stop : {n q : ℕ} → y ≡ child_reading.Refused n q → RowShape text t e row (record { size = size; access = access })
-      laying_stop f = absurd (let w = same_child in let z : ◌≡◌ {A = ℕ} 0 1 = cc in omega arith)
+      pub laying_stop : {n q : ℕ} → y ≡ fault n q → RowShape text t e row (record { size = size; access = access })
+      laying_stop f = absurd (let w = same_child in cc)
 
-      module _ {it : Instance} {k : ℕ} {shape : Shape} (d : y ≡ child_reading.Done k it) (z : shape ≡ shape_in s k) where
+      module _ {it : Instance} {k : ℕ} {shape : Shape} (d : y ≡ fine (k, it)) (z : shape ≡ shape_in s k) where
         same_instance : it ≡ ahead.child.instance
-        same_instance = let w = same_child in cc
+        same_instance = (fine_parts (sym d ∙ same_child)).1
 
         same_type : k ≡ ahead.child.type
-        same_type = let w = same_child in cc
+        same_type = (fine_parts (sym d ∙ same_child)).0
 
         same_shape : shape ≡ cut_shape (shape_at (shapes_from e.mode [] l.fits.before) ahead.child.type)
         same_shape =
@@ -266,7 +232,6 @@ module _ (text t s : List ℕ) (e : Extent) (row : ℕ) (a : Given) {to i : ℕ}
               ap (largest_access table) ahead.whole ∙ access_more e.mode a table l.behind ahead.child ahead.others in
               record {
                 stored = l.stored;
-                low = l.low;
                 fits = l.fits;
                 group = l.group;
                 rest = ahead.others;
@@ -294,13 +259,13 @@ width_cut n w = cut_stays (n / 8) (omega (arith, width_range n w))
 register_cut : {r : Register} → ValuesFit (component.Register r) → (r.width / 8 ≡ cut (r.width / 8)) × (r.access / 8 ≡ cut (r.access / 8))
 register_cut (register_fits {width = width} {access = access} p q) = (width_cut width p, width_cut access q)
 
+-- a row of a regfile or a map
+pub group_row : (t : List ℕ) (row : ℕ) {c : Component} {a : Option ℕ} → c ≡ component_in t row
+    → (c ≡ component.Regfile a) ⊎ ((m : Option ℕ) × (c ≡ component.Addrmap a m)) → GroupRow t row a
+group_row t row g (inl f) = rw (← g, f) of_regfile
+group_row t row g (inr (m, f)) = rw (← g, f) of_map
+
 module _ (text t : List ℕ) (e : Extent) (row : ℕ) {c : Component} (g : c ≡ component_in t row) where
-  pub group_regfile : {a : Given} → c ≡ component.Regfile a → GroupRow t row a
-  group_regfile f = rw (← g, f) of_regfile
-
-  pub group_map : {a m : Given} → c ≡ component.Addrmap a m → GroupRow t row a
-  group_map f = rw (← g, f) of_map
-
   module _ (ready : Ready text t e) (low : row < e.rows) where
     same_component : (definition_of (known text t e) row).component ≡ c
     same_component = sym (ready_is_row text t e row ready low).component ∙ sym g
@@ -408,12 +373,6 @@ module _ (text t s₀ : List ℕ) (e : Extent) {s : List ℕ} {row : ℕ} (f : F
   module _ (h : row < e.rows) where
     pub filling_low : row < definition_limit
     filling_low = omega (arith, h, f.ready.few)
-
-    pub filling_steps : row + 1 < 2 ^ 64
-    filling_steps = omega (arith, filling_low)
-
-    pub filling_falls : e.rows - (row + 1) < e.rows - row
-    filling_falls = omega (arith, h)
 
     pub filling_next : (shape : Shape) {u : List ℕ} → RowShape text t e row shape → u ≡ set (set s (row * shape_width) shape.size) (row * shape_width + 1) shape.access
         → Filling text t s₀ u e (row + 1)

@@ -4,25 +4,22 @@ use mathlib.Core.Path.{◌≡◌, refl, sym, ◌∙◌}
 use mathlib.Core.List.{List, [], ◌∷◌, ◌++◌}
 use Prim.Native.Nat.{ℕ, ◌+◌, ◌<◌, ◌≤◌}
 use native.Mathlib.Omega.{arith}
-use lib.Dec.{eqb, leb, ltb}
+use lib.Dec.{eqb, ltb}
 use lib.ListN.{length}
-use borrow.Author.Tests.{ltb-true, ltb-false, leb-true, eqb-true}
-use Rattle.std.specs.Prelude.{if◌then◌else◌}
-use Rattle.chars.proofs.Laws.{either}
+use borrow.Author.Tests.{ltb-true, ltb-false, eqb-true}
+use Rattle.std.specs.Prelude.{if◌then◌else◌, Option, Some}
 use Rattle.parts.specs.declared.Kind.{Kind}
 use Rattle.parts.specs.declared.Kind.TheVariants as kind
 use Rattle.parts.specs.declared.Instance.{Instance}
 use Rattle.fields.specs.Codes.{is_width}
 use Rattle.property_values.specs.Settings.{is_field, is_power_to, is_alignment}
 use Rattle.basics.specs.Given.{or_else}
-use Rattle.basics.specs.declared.Given.{Given}
 use Rattle.components.specs.Components.{kind_of}
 use Rattle.fields.specs.declared.Offset.{Offset}
 use Rattle.components.specs.declared.Component.{Component}
 use Rattle.cells.specs.Definitions.{Child, Definition, no_definition, definition_of}
 use Rattle.closing_rules.specs.Registers.{is_empty, closing_fault}
 use Rattle.scopes.specs.Places.{may_hold}
-use Rattle.scopes.specs.declared.Enclosing.TheVariants.{Inside}
 use Rattle.rules.proofs.Instances.{length_more}
 use Rattle.rules.proofs.Closing.{get_or_before, get_or_last}
 use Rattle.definition_laws.specs.Sensible.{AlignmentFits, no_alignment, alignment, ValuesFit, field_fits, register_fits, regfile_fits, map-fits, ChildFits, ChildrenFit, children_none, children_more, DefinitionFits, Sensible, sensible_none, sensible_more}
@@ -121,33 +118,32 @@ width_range n t = by (eqb n 8) (eqb n 16) (eqb n 32) (eqb n 64) refl refl refl r
     by false true c d e f g h t = let z : n ≡ 16 = eqb-true n 16 f in (omega arith, omega arith)
     by false false true d e f g h t = let z : n ≡ 32 = eqb-true n 32 g in (omega arith, omega arith)
     by false false false true e f g h t = let z : n ≡ 64 = eqb-true n 64 h in (omega arith, omega arith)
-    by false false false false e f g h t = absurd (let z : ◌≡◌ {A = ℕ} 0 1 = cc in omega arith)
+    by false false false false e f g h t = absurd cc
 
 larger-reaches : (x y : ℕ) → x ≤ larger x y
-unfolding larger
-larger-reaches x y = either (λ (n : ℕ). x ≤ n) (leb x y) (λ e. leb-true x y e) (λ _. omega arith)
+larger-reaches x y = omega arith
 
-pub laid-reaches : (m : ℕ) (a : Given) (s : Shape) (i : Instance) (end : Offset) → s.size ≤ (laid m a s i end).end.0
+pub laid-reaches : (m : ℕ) (a : Option ℕ) (s : Shape) (i : Instance) (end : Offset) → s.size ≤ (laid m a s i end).end.0
 unfolding laid span_of
 laid-reaches m a s i end = omega arith
 
 -- what may stand in a regfile or a map is no field
-pub held_addressed : {h : Component} {a : Given} → GroupOf h a → (k : Kind) → may_hold (Inside (kind_of h)) k ≡ true → is_field k ≡ false
+pub held_addressed : {h : Component} {a : Option ℕ} → GroupOf h a → (k : Kind) → may_hold (Some (kind_of h)) k ≡ true → is_field k ≡ false
 unfolding may_hold
 held_addressed of_regfile kind.Addrmap e = refl
 held_addressed of_regfile kind.Regfile e = refl
 held_addressed of_regfile kind.Reg e = refl
-held_addressed of_regfile kind.Field e = absurd (let z : ◌≡◌ {A = ℕ} 0 1 = cc in omega arith)
+held_addressed of_regfile kind.Field e = absurd cc
 held_addressed of_map kind.Addrmap e = refl
 held_addressed of_map kind.Regfile e = refl
 held_addressed of_map kind.Reg e = refl
-held_addressed of_map kind.Field e = absurd (let z : ◌≡◌ {A = ℕ} 0 1 = cc in omega arith)
+held_addressed of_map kind.Field e = absurd cc
 
 -- the shape of a body that holds something
 module _ (m : ℕ) (table : List Definition) (p : (r : ℕ) → r < length table → is_field (kind_of (definition_of table r).component) ≡ false → Positive (shape_at (shapes_from m [] table) r)) where
-  group_positive : {h : Component} {a : Given} {cs : List Child} → GroupOf h a → ChildrenFit table h cs → is_empty cs ≡ false → Positive (group_shape m a (shapes_from m [] table) cs)
+  group_positive : {h : Component} {a : Option ℕ} {cs : List Child} → GroupOf h a → ChildrenFit table h cs → is_empty cs ≡ false → Positive (group_shape m a (shapes_from m [] table) cs)
   unfolding laid_from highest_end largest_access
-  group_positive g children_none e = absurd (let z : ◌≡◌ {A = ℕ} 0 1 = cc in omega arith)
+  group_positive g children_none e = absurd cc
   group_positive {a = a} g (children_more {c = c} {cs = cs} x xs) e =
       let shapes : List Shape = shapes_from m [] table in
       let s : Shape = shape_at shapes c.type in
@@ -166,7 +162,7 @@ some_held false e f = refl
 module _ (m : ℕ) (table : List Definition) (p : (r : ℕ) → r < length table → is_field (kind_of (definition_of table r).component) ≡ false → Positive (shape_at (shapes_from m [] table) r)) where
   definition_positive : {c : Component} (cs : List Child) → ValuesFit c → ChildrenFit table c cs → closing_fault table c cs ≡ 0 → is_field (kind_of c) ≡ false → Positive (shape_of m (shapes_from m [] table) c cs)
   unfolding closing_fault
-  definition_positive cs (field_fits a b c d) x e f = absurd (let z : ◌≡◌ {A = ℕ} 0 1 = cc in omega arith)
+  definition_positive cs (field_fits a b c d) x e f = absurd cc
   definition_positive cs (register_fits {width = width} {access = access} a b) x e f =
       let w = width_range width a in
       let v = width_range access b in
@@ -193,20 +189,20 @@ one_aligned : is_alignment 1 ≡ true
 unfolding is_power_to
 one_aligned = refl
 
-given_aligned : {a : Given} → AlignmentFits a → is_alignment (or_else 1 a) ≡ true
+given_aligned : {a : Option ℕ} → AlignmentFits a → is_alignment (or_else 1 a) ≡ true
 given_aligned no_alignment = one_aligned
 given_aligned (alignment e) = e
 
-pub group_aligned : {h : Component} {a : Given} → GroupOf h a → ValuesFit h → is_alignment (or_else 1 a) ≡ true
+pub group_aligned : {h : Component} {a : Option ℕ} → GroupOf h a → ValuesFit h → is_alignment (or_else 1 a) ≡ true
 group_aligned of_regfile (regfile_fits f) = given_aligned f
 group_aligned of_map (map-fits f g) = given_aligned f
 
-pub group_shape_lem : (m : ℕ) (shapes : List Shape) (cs : List Child) {h : Component} {a : Given} → GroupOf h a → shape_of m shapes h cs ≡ group_shape m a shapes cs
+pub group_shape_lem : (m : ℕ) (shapes : List Shape) (cs : List Child) {h : Component} {a : Option ℕ} → GroupOf h a → shape_of m shapes h cs ≡ group_shape m a shapes cs
 group_shape_lem m shapes cs of_regfile = refl
 group_shape_lem m shapes cs of_map = refl
 
 -- an instance in a regfile or a map: what `lay` asks for
-module _ (m : ℕ) (table : List Definition) (h : Component) (c : Child) (s : Sensible table) {a : Given} (g : GroupOf h a) (x : ChildFits table h c) where
+module _ (m : ℕ) (table : List Definition) (h : Component) (c : Child) (s : Sensible table) {a : Option ℕ} (g : GroupOf h a) (x : ChildFits table h c) where
   pub child_addressed : is_field (kind_of (definition_of table c.type).component) ≡ false
   child_addressed = held_addressed g (kind_of (definition_of table c.type).component) x.held
 

@@ -1,6 +1,5 @@
 -- The shapes of a text's definitions in cells: two a row, the size and the access width in bytes, cut at the cap.
-use Rattle.std.specs.Prelude.{◌≡◌, List, [], ◌∷◌, ℕ, ◌+◌, ◌*◌, ◌<◌, length}
-use Rattle.basics.specs.declared.Given.{Given}
+use Rattle.std.specs.Prelude.{◌≡◌, List, [], ◌∷◌, ℕ, ◌+◌, ◌*◌, ◌<◌, length, Option}
 use Rattle.components.specs.declared.Component.{Component}
 use Rattle.components.specs.declared.Component.TheVariants as component
 use Rattle.basics.specs.Limits.{definition_limit}
@@ -34,11 +33,11 @@ pub record ShapesIn (s : List ℕ) (rows : ℕ) (shapes : List Shape) : Type 0 w
   pub each : (r : ℕ) → r < rows → shape_in s r ≡ cut_shape (shape_at shapes r)
 
 -- a row of a body whose instances are laid, with its own alignment
-pub data GroupOf : Component → Given → Type 0 where
-  of_regfile : {a : Given} → GroupOf (component.Regfile a) a
-  of_map : {a m : Given} → GroupOf (component.Addrmap a m) a
+pub data GroupOf : Component → Option ℕ → Type 0 where
+  of_regfile : {a : Option ℕ} → GroupOf (component.Regfile a) a
+  of_map : {a m : Option ℕ} → GroupOf (component.Addrmap a m) a
 
-abbrev pub GroupRow : List ℕ → ℕ → Given → Type 0
+abbrev pub GroupRow : List ℕ → ℕ → Option ℕ → Type 0
 GroupRow t row alignment = GroupOf (component_in t row) alignment
 
 -- all shapes of a text's definitions, in a mode

@@ -3,12 +3,9 @@
 
 ghost use Rattle.std.specs.Prelude.{◌≡◌, ◌++◌, ◌+◌, ◌*◌, ◌/◌, ◌<◌, ◌≤◌, length, drop, set};
 ghost use Rattle.basics.specs.Limits.{definition_limit};
-ghost use Rattle.capped.specs.Offsets.{larger};
 ghost use Rattle.sizes.specs.Ready.{Ready};
 ghost use Rattle.sizes.specs.Shapes.{shapes_size, shape_width, shape_in, shape_cells, all_shapes, GroupRow, ShapesBefore, RowShape};
 
-use basics::Given;
-use cells::ChildReading;
 use components::Component;
 use fields::{Offset, Register};
 use layout::Shape;
@@ -27,6 +24,7 @@ pub struct Extent {
 }
 
 // The shape of a row.
+#[tactic(auto, unfolding(crate::specs::Shapes::shape_in))]
 pub fn shape_at(shapes: &[u64], row: usize) -> Shape
     requires { row < definition_limit }
     ensures { result ≡ shape_in shapes.now row }
@@ -44,14 +42,6 @@ fn put_shape(shapes: &mut [u64], row: usize, shape: Shape)
     basics::put(shapes, row * SHAPE_WIDTH + 1, shape.access);
 }
 
-// The later of two offsets.
-fn later_of(a: Offset, b: Offset) -> Offset
-    ensures { result.0 ≡ larger a.0 b.0 }
-{
-    let highest = capped::larger_of(a.0, b.0);
-    Offset(highest)
-}
-
 // A body's shape: its highest end, and the largest access width inside.
 fn group_shape(
     text: &[u8],
@@ -59,40 +49,27 @@ fn group_shape(
     shapes: &[u64],
     extent: Extent,
     row: usize,
-    alignment: Given,
+    alignment: Option<u64>,
 ) -> Shape
     requires { Ready text.now cells.now extent × (row < extent.rows) × ShapesBefore text.now cells.now shapes.now extent row × GroupRow cells.now row alignment }
     ensures { RowShape text.now cells.now extent row result }
 {
     let span = cells::instances_of(cells, row);
-    let mut i = span.from;
     let mut end = Offset(0);
-    let mut highest = Offset(0);
-    let mut access = 0;
-    while i < span.to {
-        match cells::child_at(text, cells, i) {
-            ChildReading::Done(inner, instance) => {
-                let shape = shape_at(shapes, inner);
-                let laid = layout::lay(extent.mode, alignment, shape, instance, end);
-                let past = laid.end;
-                highest = later_of(highest, past);
-                access = capped::larger_of(access, shape.access);
-                end = past;
-                i += 1;
-            }
-            ChildReading::Refused(_, _) => {
-                // never so: the cells hold readable instances
-                return Shape {
-                    size: highest.0,
-                    access,
-                };
-            }
-        }
+    let mut size = 0u64;
+    let mut access = 0u64;
+    for i in span.from..span.to {
+        let Ok((inner, instance)) = cells::child_at(text, cells, i) else {
+            // never so: the cells hold readable instances
+            break;
+        };
+        let shape = shape_at(shapes, inner);
+        let laid = layout::lay(extent.mode, alignment, shape, instance, end);
+        end = laid.end;
+        size = size.max(end.0);
+        access = access.max(shape.access);
     }
-    Shape {
-        size: highest.0,
-        access,
-    }
+    Shape { size, access }
 }
 
 fn register_shape(register: Register) -> Shape
@@ -112,8 +89,7 @@ fn shape_of(text: &[u8], cells: &[u64], shapes: &[u64], extent: Extent, row: usi
     match cells::component_at(cells, row) {
         Component::Field(_) => Shape { size: 0, access: 0 },
         Component::Register(register) => register_shape(register),
-        Component::Regfile(alignment) => group_shape(text, cells, shapes, extent, row, alignment),
-        Component::Addrmap(alignment, _) => {
+        Component::Regfile(alignment) | Component::Addrmap(alignment, _) => {
             group_shape(text, cells, shapes, extent, row, alignment)
         }
     }
@@ -124,10 +100,8 @@ pub fn fill_shapes(text: &[u8], cells: &[u64], shapes: &mut [u64], extent: Exten
     requires { Ready text.now cells.now extent × (shapes_size ≤ length shapes.old) }
     ensures { shapes.new ≡ shape_cells (all_shapes text.now cells.now extent) ++ drop (extent.rows * shape_width) shapes.old }
 {
-    let mut row = 0;
-    while row < extent.rows {
+    for row in 0..extent.rows {
         let shape = shape_of(text, cells, shapes, extent, row);
         put_shape(shapes, row, shape);
-        row += 1;
     }
 }

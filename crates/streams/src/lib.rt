@@ -27,8 +27,8 @@ pub fn fill<R: Read>(input: &mut R, room: &mut [u8]) -> io::Result<usize>
     Ok(done)
 }
 
-// Writes all the bytes, in as many writes as that takes; one that was interrupted is tried again. Where a write fails, or takes none of the rest,
-// what was written before it stands.
+// Writes all the bytes, in as many writes as that takes; one that was interrupted is tried again. Where a write fails, or takes none of
+// the rest, what was written before it stands.
 pub fn pour<W: Write>(out: &mut W, bytes: &[u8]) -> io::Result<()>
     ensures ok { OnOk result (Appends (W.contents out.old) (W.contents out.new) bytes.now) }
     ensures err { OnErr result (AppendsPart (W.contents out.old) (W.contents out.new) bytes.now) }

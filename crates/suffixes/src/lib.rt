@@ -2,21 +2,23 @@
 #![tactic(auto)]
 
 ghost use Rattle.std.specs.Prelude.{◌≡◌};
-ghost use Rattle.suffixes.specs.Suffixes.{ranged, settled_fault, is_size, is_range, size_fault, range_fault, array_fault, suffix_range, number_fault, suffix_fault, is_array, is_given, is_barred, instance_fault};
+ghost use Rattle.basics.specs.Judged.{Accepted, verdict};
+ghost use Rattle.suffixes.specs.Suffixes.{ranged, settled_fault, is_size, is_range, size_fault, range_fault, array_fault, suffix_range, number_fault, suffix_fault, is_array, is_barred, instance_fault};
 
-use basics::Fault;
-use expressions::{Number, Refusal};
+use basics::{Refusal, Rule};
+use expressions::Number;
 use parts::{Array, Instance, Kind, Suffix, SuffixKind};
 
 // 9 where a number is out of its range.
 #[tactic(auto, unfolding(crate::specs::Suffixes::ranged))]
-fn ranged_at(fits: bool, place: usize) -> Fault
-    ensures { result ≡ ranged fits place }
+fn ranged_at(fits: bool, place: usize) -> Result<(), Refusal>
+    ensures { verdict result ≡ ranged fits place }
 {
     if fits {
-        return Fault::None;
+        Ok(())
+    } else {
+        Err(Rule::BadValue.at(place))
     }
-    Fault::Refused(9, place)
 }
 
 // The number of `[n]`: a field's width, or the length of an array.
@@ -24,75 +26,63 @@ fn ranged_at(fits: bool, place: usize) -> Fault
 fn is_size(field: bool, n: u64) -> bool
     ensures { result ≡ is_size field n }
 {
-    if n < 1 {
-        return false;
-    }
-    if field {
-        return n <= basics::WIDTH_LIMIT;
-    }
-    n <= basics::ARRAY_LIMIT
+    let limit = if field {
+        basics::WIDTH_LIMIT
+    } else {
+        basics::ARRAY_LIMIT
+    };
+    1 <= n && n <= limit
 }
 
 #[tactic(auto, unfolding(crate::specs::Suffixes::is_range))]
 fn is_range(left: u64, right: u64) -> bool
     ensures { result ≡ is_range left right }
 {
-    if left < right {
-        return false;
-    }
-    left < basics::WIDTH_LIMIT
+    right <= left && left < basics::WIDTH_LIMIT
 }
 
-// No range over a refused part is judged.
+// 9 at the operator that refuses a number: no range over a refused part is judged.
 #[tactic(auto, unfolding(crate::specs::Suffixes::settled_fault))]
-fn settle(refusal: Refusal, rest: Fault) -> Fault
-    ensures { result ≡ settled_fault refusal rest }
+fn settle(refusal: Option<usize>) -> Result<(), Refusal>
+    ensures { verdict result ≡ settled_fault refusal Accepted }
 {
     match refusal {
-        Refusal::Nowhere => rest,
-        Refusal::AtOperator(place) => Fault::Refused(9, place),
+        Some(place) => Err(Rule::BadValue.at(place)),
+        None => Ok(()),
     }
 }
 
-fn size_fault(field: bool, size: Number) -> Fault
-    ensures { result ≡ size_fault field size }
+#[tactic(auto, unfolding(crate::specs::Suffixes::settled_fault))]
+fn size_fault(field: bool, size: Number) -> Result<(), Refusal>
+    ensures { verdict result ≡ size_fault field size }
 {
-    let refusal = size.refusal;
-    settle(refusal, ranged_at(is_size(field, size.value), size.place))
+    settle(size.refusal)?;
+    ranged_at(is_size(field, size.value), size.place)
 }
 
-fn range_fault(left: Number, right: Number) -> Fault
-    ensures { result ≡ range_fault left right }
+#[tactic(auto, unfolding(crate::specs::Suffixes::settled_fault))]
+fn range_fault(left: Number, right: Number) -> Result<(), Refusal>
+    ensures { verdict result ≡ range_fault left right }
 {
-    let left_refusal = left.refusal;
-    let right_refusal = right.refusal;
-    let ranged = ranged_at(is_range(left.value, right.value), left.place);
-    settle(left_refusal, settle(right_refusal, ranged))
+    settle(left.refusal)?;
+    settle(right.refusal)?;
+    ranged_at(is_range(left.value, right.value), left.place)
 }
 
-fn array_fault(field: bool, array: Array) -> Fault
-    ensures { result ≡ array_fault field array }
+fn array_fault(field: bool, array: Array) -> Result<(), Refusal>
+    ensures { verdict result ≡ array_fault field array }
 {
     match array {
-        Array::Missing => Fault::None,
+        Array::Missing => Ok(()),
         Array::Size(_, size) => size_fault(field, size),
         Array::Range(mark, left, right) => {
             if field {
-                return range_fault(left, right);
+                range_fault(left, right)
+            } else {
+                Err(Rule::SuffixMisplaced.at(mark))
             }
-            Fault::Refused(11, mark)
         }
     }
-}
-
-#[tactic(auto, unfolding(crate::specs::Suffixes::suffix_range))]
-fn is_stride(n: u64) -> bool
-    ensures { result ≡ suffix_range SuffixKind.Stride n }
-{
-    if n < 1 {
-        return false;
-    }
-    n <= basics::HIGHEST_ADDRESS
 }
 
 #[tactic(auto, unfolding(crate::specs::Suffixes::suffix_range))]
@@ -102,50 +92,33 @@ fn suffix_range(kind: SuffixKind, n: u64) -> bool
     match kind {
         SuffixKind::Reset => true,
         SuffixKind::Address => n <= basics::HIGHEST_ADDRESS,
-        SuffixKind::Stride => is_stride(n),
+        SuffixKind::Stride => 1 <= n && n <= basics::HIGHEST_ADDRESS,
         SuffixKind::Alignment => property_values::is_alignment(n),
     }
 }
 
-fn number_fault(kind: SuffixKind, number: Number) -> Fault
-    ensures { result ≡ number_fault kind number }
+#[tactic(auto, unfolding(crate::specs::Suffixes::settled_fault))]
+fn number_fault(kind: SuffixKind, number: Number) -> Result<(), Refusal>
+    ensures { verdict result ≡ number_fault kind number }
 {
-    let refusal = number.refusal;
-    settle(
-        refusal,
-        ranged_at(suffix_range(kind, number.value), number.place),
-    )
+    settle(number.refusal)?;
+    ranged_at(suffix_range(kind, number.value), number.place)
 }
 
-fn suffix_fault(barred: bool, kind: SuffixKind, suffix: Suffix) -> Fault
-    ensures { result ≡ suffix_fault barred kind suffix }
+fn suffix_fault(barred: bool, kind: SuffixKind, suffix: Suffix) -> Result<(), Refusal>
+    ensures { verdict result ≡ suffix_fault barred kind suffix }
 {
-    let Suffix::Given(mark, number) = suffix else {
-        return Fault::None;
-    };
-    if barred {
-        return Fault::Refused(11, mark);
+    match suffix {
+        None => Ok(()),
+        Some((mark, _)) if barred => Err(Rule::SuffixMisplaced.at(mark)),
+        Some((_, number)) => number_fault(kind, number),
     }
-    number_fault(kind, number)
 }
 
 pub fn is_array(array: Array) -> bool
     ensures { result ≡ is_array array }
 {
-    match array {
-        Array::Missing => false,
-        Array::Size(_, _) => true,
-        Array::Range(_, _, _) => true,
-    }
-}
-
-fn is_given(suffix: Suffix) -> bool
-    ensures { result ≡ is_given suffix }
-{
-    match suffix {
-        Suffix::Missing => false,
-        Suffix::Given(_, _) => true,
-    }
+    !matches!(array, Array::Missing)
 }
 
 // Whether a suffix may not stand behind an instance of a field, or of another component.
@@ -153,40 +126,35 @@ fn is_given(suffix: Suffix) -> bool
 fn is_barred(kind: SuffixKind, field: bool, instance: Instance) -> bool
     ensures { result ≡ is_barred kind field instance }
 {
-    let array = instance.array;
-    let address = instance.address;
     match kind {
         SuffixKind::Reset => !field,
         SuffixKind::Address => field,
-        SuffixKind::Stride => basics::either(field, !is_array(array)),
-        SuffixKind::Alignment => basics::either(field, is_given(address)),
+        SuffixKind::Stride => field || !is_array(instance.array),
+        SuffixKind::Alignment => field || instance.address.is_some(),
     }
 }
 
 // The fault of one suffix of an instance.
-fn fault_of(kind: SuffixKind, field: bool, instance: Instance, suffix: Suffix) -> Fault
-    ensures { result ≡ suffix_fault (is_barred kind field instance) kind suffix }
+fn fault_of(
+    kind: SuffixKind,
+    field: bool,
+    instance: Instance,
+    suffix: Suffix,
+) -> Result<(), Refusal>
+    ensures { verdict result ≡ suffix_fault (is_barred kind field instance) kind suffix }
 {
     suffix_fault(is_barred(kind, field, instance), kind, suffix)
 }
 
 // The first fault of an instance's suffixes, for an instance of a component of this kind.
 #[tactic(auto, unfolding(crate::specs::Suffixes::instance_fault))]
-pub fn instance_fault(kind: Kind, instance: Instance) -> Fault
-    ensures { result ≡ instance_fault kind instance }
+pub fn instance_fault(kind: Kind, instance: Instance) -> Result<(), Refusal>
+    ensures { verdict result ≡ instance_fault kind instance }
 {
-    let field = property_values::is_field(kind);
-    let array = instance.array;
-    let reset = instance.reset;
-    let address = instance.address;
-    let stride = instance.stride;
-    let alignment = instance.alignment;
-    let fifth = fault_of(SuffixKind::Alignment, field, instance, alignment);
-    let fourth = basics::first_of(fault_of(SuffixKind::Stride, field, instance, stride), fifth);
-    let third = basics::first_of(
-        fault_of(SuffixKind::Address, field, instance, address),
-        fourth,
-    );
-    let second = basics::first_of(fault_of(SuffixKind::Reset, field, instance, reset), third);
-    basics::first_of(array_fault(field, array), second)
+    let field = kind == Kind::Field;
+    array_fault(field, instance.array)?;
+    fault_of(SuffixKind::Reset, field, instance, instance.reset)?;
+    fault_of(SuffixKind::Address, field, instance, instance.address)?;
+    fault_of(SuffixKind::Stride, field, instance, instance.stride)?;
+    fault_of(SuffixKind::Alignment, field, instance, instance.alignment)
 }

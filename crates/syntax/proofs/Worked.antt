@@ -15,7 +15,7 @@ use Rattle.lex.specs.Quote.{closes, closing}
 use Rattle.lex.specs.Token.{name_word, name_token, number_token, string_token, mark_token, token_from, token_at}
 use Rattle.operators.specs.Operators.{result_of}
 use Rattle.expressions.specs.Words.{part_of, in_row, operator_in}
-use Rattle.expressions.specs.Value.{sound, earlier, given, settled, joined, evaluated}
+use Rattle.expressions.specs.Value.{sound, given, settled, joined, evaluated}
 use Rattle.expressions.specs.Grammar.{joined_from, row_at, closed_at, operand_with, operand_at, expression_at, number_at}
 use Rattle.parts.specs.Reading.{Parsed, ok, stop, and_then, mapped}
 use Rattle.parts.specs.Words.{is_name, kind_of, is_kind, is_default, is_property, is_mark, is_end}
@@ -23,17 +23,15 @@ use Rattle.parts.specs.Parts.{closed_by, name_at, array_rest_at, array_at, suffi
 use Rattle.parts.specs.declared.Name.{Name}
 use Rattle.expressions.specs.declared.Number.{Number}
 use Rattle.parts.specs.declared.Kind.TheVariants.{Addrmap, Reg, Field}
-use Rattle.parts.specs.declared.DefinedName.{DefinedName}
-use Rattle.parts.specs.declared.DefinedName.TheVariants.{Unnamed, Named}
 use Rattle.parts.specs.declared.Header.{Header}
 use Rattle.parts.specs.declared.Kind.{Kind}
 use Rattle.parts.specs.declared.Array.TheVariants as array
-use Rattle.parts.specs.declared.Suffix.TheVariants as suffix
 use Rattle.parts.specs.declared.Instance.{Instance}
 use Rattle.parts.specs.declared.Value.{Value}
 use Rattle.parts.specs.declared.Value.TheVariants as value
 use Rattle.syntax.specs.Tree.{Elem, definition, instances, property, Body, close, more}
 use Rattle.syntax.specs.Grammar.{instances_from, instances_at, instance_statement_at, statement_at, tail_at, element_at, elements_at, definition_with, definition_at, definitions_from, file_at}
+use Rattle.std.specs.Prelude.{Option, Some, None}
 
 abbrev name : ℕ → ℕ → Name
 name s e = record { start = s; end = e }
@@ -41,7 +39,7 @@ name s e = record { start = s; end = e }
 abbrev number : ℕ → ℕ → Number
 number v p = sound v p
 
-abbrev header : Kind → ℕ → DefinedName → ℕ → Header
+abbrev header : Kind → ℕ → Option Name → ℕ → Header
 header k p n b = record { kind = k; place = p; name = n; brace = b }
 
 -- a property statement that is no default
@@ -62,11 +60,11 @@ case t r = record { text = t; read = r }
 pub cases : List Case
 cases =
     case "" (ok (close 0) 0) ∷
-    case "addrmap m {} ; " (ok (more (definition (header Addrmap 0 (Named (name 8 9)) 10) (close 11) []) (close 15)) 15) ∷
+    case "addrmap m {} ; " (ok (more (definition (header Addrmap 0 (Some (name 8 9)) 10) (close 11) []) (close 15)) 15) ∷
     case "reg{sw=r;T a,b[2]@4;}x;"
     (ok
     (more
-    (definition (header Reg 0 Unnamed 3)
+    (definition (header Reg 0 None 3)
     (more (setting 4 6 (value.Word keyword.R 7))
     (more
     (instances (name 9 10)
@@ -74,10 +72,10 @@ cases =
     record {
       name = name 13 14;
       array = array.Size 14 (number 2 15);
-      reset = suffix.Missing;
-      address = suffix.Given 17 (number 4 18);
-      stride = suffix.Missing;
-      alignment = suffix.Missing;
+      reset = None;
+      address = Some (17, (number 4 18));
+      stride = None;
+      alignment = None;
     } ∷
     []))
     (close 20)))
@@ -87,15 +85,15 @@ cases =
     case "field {default rclr;}f[1:0]=3+=1%=2;"
     (ok
     (more
-    (definition (header Field 0 Unnamed 6)
+    (definition (header Field 0 None 6)
     (more (property (record { defaulted = true; start = 15; end = 19; value = value.Missing })) (close 20))
     (record {
       name = name 21 22;
       array = array.Range 22 (number 1 23) (number 0 25);
-      reset = suffix.Given 27 (number 3 28);
-      address = suffix.Missing;
-      stride = suffix.Given 29 (number 1 31);
-      alignment = suffix.Given 32 (number 2 34);
+      reset = Some (27, (number 3 28));
+      address = None;
+      stride = Some (29, (number 1 31));
+      alignment = Some (32, (number 2 34));
     } ∷
     []))
     (close 36))
@@ -111,5 +109,5 @@ cases =
     []
 
 pub worked : map (λ c. file_at (bytes c.text)) cases ≡ map (λ c. c.read) cases
-unfolding cases is_within is_blank is_line_end is_letter is_name_byte is_number_byte is_hex_digit is_spaced_digit run every same_bytes chosen entry keyword_of mark_of digit_value next_value value_from fitting radix_of plain_digits spaced_digits width_of sized_number sized_at hex_prefixed hex_number number_of blanks next_from closes closing name_word name_token number_token string_token mark_token token_from token_at and_then mapped is_name kind_of is_kind is_default is_property is_mark is_end closed_by name_at result_of part_of in_row operator_in earlier given settled joined evaluated joined_from row_at closed_at operand_with operand_at expression_at number_at array_rest_at array_at suffix_at set_suffix with_suffix bare_at instance_at parted_at listed_at value_at setting_at property_word_at property_at header_rest_at header_at starts_instances instances_from instances_at instance_statement_at statement_at tail_at element_at elements_at definition_with definition_at definitions_from file_at
+unfolding cases is_within is_blank is_line_end is_letter is_name_byte is_number_byte is_hex_digit is_spaced_digit run every same_bytes chosen entry keyword_of mark_of digit_value next_value value_from fitting radix_of plain_digits spaced_digits width_of sized_number sized_at hex_prefixed hex_number number_of blanks next_from closes closing name_word name_token number_token string_token mark_token token_from token_at and_then mapped is_name kind_of is_kind is_default is_property is_mark is_end closed_by name_at result_of part_of in_row operator_in given settled joined evaluated joined_from row_at closed_at operand_with operand_at expression_at number_at array_rest_at array_at suffix_at set_suffix with_suffix bare_at instance_at parted_at listed_at value_at setting_at property_word_at property_at header_rest_at header_at starts_instances instances_from instances_at instance_statement_at statement_at tail_at element_at elements_at definition_with definition_at definitions_from file_at
 worked = refl

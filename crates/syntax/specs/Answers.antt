@@ -1,30 +1,26 @@
 -- What the readers answer for a reading of the grammar: they keep no tree.
 use Rattle.std.specs.Prelude.{List, [], ◌∷◌, ℕ}
-use Rattle.lex.specs.Words.{refused}
-use Rattle.lex.specs.declared.Verdict.{Verdict}
-use Rattle.lex.specs.declared.Verdict.TheVariants.{Accepted}
 use Rattle.parts.specs.Reading.{Parsed, ok, stop}
 use Rattle.syntax.specs.Grammar.{file_at}
-use Rattle.syntax.specs.declared.GrammarReading.{GrammarReading}
-use Rattle.syntax.specs.declared.GrammarReading.TheVariants.{Done, Refused}
+use Rattle.basics.specs.Judged.{Verdict, Accepted, Refused, Judged, fine, fault}
 
 -- the cursor past what was read, or the refusal
-unfoldable pub answer_of : {A : Type 0} → Parsed A → GrammarReading
-answer_of (ok a next) = Done next
-answer_of (stop number place) = Refused number place
+unfoldable pub answer_of : {A : Type 0} → Parsed A → Judged ℕ
+answer_of (ok a next) = fine next
+answer_of (stop number place) = fault number place
 
-abbrev pub verdict_of : GrammarReading → Verdict
-verdict_of (Done next) = Accepted
-verdict_of (Refused number place) = refused number place
+abbrev pub verdict_of : Judged ℕ → Verdict
+verdict_of (fine next) = Accepted
+verdict_of (fault number place) = Refused number place
 
 -- the first refusal of a text by 3, and by 18 for bodies, or none
 unfoldable pub sentence_verdict : List ℕ → Verdict
 sentence_verdict text = verdict_of (answer_of (file_at text))
 
 -- an answer in document 01's numbers: the refusal or 0, its place, 0 where there is none, and the cursor past what was read, 0 where refused
-abbrev pub answer_numbers : GrammarReading → List ℕ
-answer_numbers (Done next) = 0 ∷ 0 ∷ next ∷ []
-answer_numbers (Refused number place) = number ∷ place ∷ 0 ∷ []
+abbrev pub answer_numbers : Judged ℕ → List ℕ
+answer_numbers (fine next) = 0 ∷ 0 ∷ next ∷ []
+answer_numbers (fault number place) = number ∷ place ∷ 0 ∷ []
 
 -- the same numbers of a reading
 abbrev pub reading_numbers : {A : Type 0} → Parsed A → List ℕ

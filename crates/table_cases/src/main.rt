@@ -2,7 +2,7 @@
 // lawful rows that no text gives.
 #![tactic(auto)]
 
-ghost use Rattle.std.specs.Prelude.{◌<◌, length};
+ghost use Rattle.std.specs.Prelude.{◌<◌, ◌≤◌, length};
 
 use compile::Compiled;
 use fields::ReadEffect;
@@ -15,43 +15,45 @@ const NUMBER: u64 = 77;
 
 const BYTE: u8 = b'.';
 
+// The rows of a map, in its tables.
+#[derive(Clone, Copy)]
+struct Rows<'a> {
+    registers: &'a [u64],
+    paths: &'a [u8],
+    fields: &'a [u64],
+    labels: &'a [u8],
+}
+
 fn put_compiled<W: Write>(out: &mut W, answer: Compiled) -> io::Result<()> {
     match answer {
-        Compiled::Refused(number, place) => {
-            case_io::put_number(out, b" refused=", number as u64)?;
-            case_io::put_number(out, b" at=", place.at as u64)
+        Ok(counts) => {
+            case_io::put_number(out, b" registers=", counts.registers as u64)?;
+            case_io::put_number(out, b" fields=", counts.fields as u64)
         }
-        Compiled::Accepted(registers, fields) => {
-            case_io::put_number(out, b" registers=", registers as u64)?;
-            case_io::put_number(out, b" fields=", fields as u64)
-        }
+        Err(refusal) => case_io::put_refusal(out, refusal),
     }
 }
 
 fn put_listed<W: Write>(out: &mut W, answer: Listed) -> io::Result<()> {
     match answer {
-        Listed::Refused(number) => case_io::put_number(out, b" refused=", number as u64),
-        Listed::Written(count) => case_io::put_number(out, b" written=", count as u64),
+        Ok(count) => case_io::put_number(out, b" written=", count as u64),
+        Err(rule) => case_io::put_number(out, b" refused=", rule.number() as u64),
     }
 }
 
-fn put_kept<W: Write>(out: &mut W, label: &[u8], kept: bool) -> io::Result<()> {
+// A label, and whether all cells are those from before the call.
+fn put_kept<W: Write, T: PartialEq + Copy>(
+    out: &mut W,
+    label: &[u8],
+    cells: &[T],
+    before: T,
+) -> io::Result<()> {
     case_io::put(out, label)?;
-    if kept {
+    if cells.iter().all(|cell| *cell == before) {
         case_io::put(out, b"=kept")
     } else {
         case_io::put(out, b"=written")
     }
-}
-
-// Whether all numbers are those from before the call.
-fn are_kept_numbers(numbers: &[u64]) -> bool {
-    numbers.iter().all(|number| *number == NUMBER)
-}
-
-// Whether all bytes are those from before the call.
-fn are_kept_bytes(bytes: &[u8]) -> bool {
-    bytes.iter().all(|byte| *byte == BYTE)
 }
 
 // Compiles a text: a label, what is answered, and which tables were written.
@@ -69,10 +71,10 @@ fn show_compiled<W: Write>(
         out,
         compile::compile(text, registers, paths, fields, labels),
     )?;
-    put_kept(out, b" registers", are_kept_numbers(registers))?;
-    put_kept(out, b" paths", are_kept_bytes(paths))?;
-    put_kept(out, b" fields", are_kept_numbers(fields))?;
-    put_kept(out, b" labels", are_kept_bytes(labels))?;
+    put_kept(out, b" registers", registers, NUMBER)?;
+    put_kept(out, b" paths", paths, BYTE)?;
+    put_kept(out, b" fields", fields, NUMBER)?;
+    put_kept(out, b" labels", labels, BYTE)?;
     case_io::put(out, b"\n")
 }
 
@@ -89,80 +91,41 @@ fn show_one<W: Write>(
     show_compiled(out, label, text, registers, paths, fields, labels)
 }
 
-// Lists the rows of the tables to an output: a label, what is answered, and whether the output was written.
+// The same in tables of these lengths.
+fn show_short<const R: usize, const P: usize, const F: usize, const L: usize, W: Write>(
+    out: &mut W,
+    label: &[u8],
+) -> io::Result<()>
+    requires { (R ≤ 14) × (P ≤ 288) × (F ≤ 8) × (L ≤ 32) }
+{
+    let mut registers = [NUMBER; R];
+    let mut paths = [BYTE; P];
+    let mut fields = [NUMBER; F];
+    let mut labels = [BYTE; L];
+    show_one(
+        out,
+        label,
+        &mut registers,
+        &mut paths,
+        &mut fields,
+        &mut labels,
+    )
+}
+
+// Lists rows to an output: a label, what is answered, and whether the output was written.
 fn show_listed<W: Write>(
     out: &mut W,
     label: &[u8],
-    registers: &[u64],
-    paths: &[u8],
-    fields: &[u64],
-    labels: &[u8],
+    rows: Rows<'_>,
     output: &mut [u8],
 ) -> io::Result<()> {
     case_io::put(out, label)?;
-    put_listed(out, listing::list(registers, paths, fields, labels, output))?;
-    put_kept(out, b" output", are_kept_bytes(output))?;
+    put_listed(
+        out,
+        listing::list(rows.registers, rows.paths, rows.fields, rows.labels, output),
+    )?;
+    put_kept(out, b" output", output, BYTE)?;
     case_io::put(out, b"\n")
-}
-
-fn registers_short<W: Write>(out: &mut W) -> io::Result<()> {
-    let mut registers = [NUMBER; 13];
-    let mut paths = [BYTE; 288];
-    let mut fields = [NUMBER; 8];
-    let mut labels = [BYTE; 32];
-    show_one(
-        out,
-        b"registers short by one:",
-        &mut registers,
-        &mut paths,
-        &mut fields,
-        &mut labels,
-    )
-}
-
-fn paths_short<W: Write>(out: &mut W) -> io::Result<()> {
-    let mut registers = [NUMBER; 14];
-    let mut paths = [BYTE; 287];
-    let mut fields = [NUMBER; 8];
-    let mut labels = [BYTE; 32];
-    show_one(
-        out,
-        b"paths short by one:",
-        &mut registers,
-        &mut paths,
-        &mut fields,
-        &mut labels,
-    )
-}
-
-fn fields_short<W: Write>(out: &mut W) -> io::Result<()> {
-    let mut registers = [NUMBER; 14];
-    let mut paths = [BYTE; 288];
-    let mut fields = [NUMBER; 7];
-    let mut labels = [BYTE; 32];
-    show_one(
-        out,
-        b"fields short by one:",
-        &mut registers,
-        &mut paths,
-        &mut fields,
-        &mut labels,
-    )
-}
-
-fn labels_short<W: Write>(out: &mut W) -> io::Result<()> {
-    let mut registers = [NUMBER; 14];
-    let mut paths = [BYTE; 288];
-    let mut fields = [NUMBER; 8];
-    let mut labels = [BYTE; 31];
-    show_one(
-        out,
-        b"labels short by one:",
-        &mut registers,
-        &mut paths,
-        &mut fields,
-        &mut labels,
-    )
 }
 
 // The rows in tables that just fit, and their listing, which has 105 bytes.
@@ -181,41 +144,27 @@ fn just_fit<W: Write>(out: &mut W) -> io::Result<()> {
         &mut fields,
         &mut labels,
     )?;
-    show_listed(
-        out,
-        b"output short by one:",
-        &registers,
-        &paths,
-        &fields,
-        &labels,
-        &mut short,
-    )?;
-    show_listed(
-        out,
-        b"output just fits:",
-        &registers,
-        &paths,
-        &fields,
-        &labels,
-        &mut output,
-    )?;
+    let rows = Rows {
+        registers: &registers,
+        paths: &paths,
+        fields: &fields,
+        labels: &labels,
+    };
+    show_listed(out, b"output short by one:", rows, &mut short)?;
+    show_listed(out, b"output just fits:", rows, &mut output)?;
     case_io::put(out, &output)
 }
 
 // Without a register there are no lawful rows.
 fn no_rows<W: Write>(out: &mut W) -> io::Result<()> {
-    let numbers = [NUMBER; 0];
-    let bytes = [BYTE; 0];
     let mut output = [BYTE; 105];
-    show_listed(
-        out,
-        b"no rows:",
-        &numbers,
-        &bytes,
-        &numbers,
-        &bytes,
-        &mut output,
-    )
+    let rows = Rows {
+        registers: &[],
+        paths: &[],
+        fields: &[],
+        labels: &[],
+    };
+    show_listed(out, b"no rows:", rows, &mut output)
 }
 
 // Lists the rows with a width that no register has, to an output that fits and to one that is too short, and with their own width again.
@@ -231,34 +180,22 @@ fn show_widths<W: Write>(
     let mut short = [BYTE; 104];
     let mut output = [BYTE; 105];
     registers[1] = 33;
-    show_listed(
-        out,
-        b"width 33:",
+    let wide = Rows {
         registers,
         paths,
         fields,
         labels,
-        &mut output,
-    )?;
-    show_listed(
-        out,
-        b"width 33, output short:",
-        registers,
-        paths,
-        fields,
-        labels,
-        &mut short,
-    )?;
+    };
+    show_listed(out, b"width 33:", wide, &mut output)?;
+    show_listed(out, b"width 33, output short:", wide, &mut short)?;
     registers[1] = 32;
-    show_listed(
-        out,
-        b"width 32 again:",
+    let lawful = Rows {
         registers,
         paths,
         fields,
         labels,
-        &mut output,
-    )
+    };
+    show_listed(out, b"width 32 again:", lawful, &mut output)
 }
 
 // Rows that are not lawful are 24, also where the output is too short.
@@ -304,24 +241,22 @@ fn count_across_parts<W: Write>(out: &mut W) -> io::Result<()> {
         &mut labels,
     )?;
     fields[4] = fields::read_code(ReadEffect::Rclr);
-    show_listed(
-        out,
-        b"that clears, by its row:",
-        &registers,
-        &paths,
-        &fields,
-        &labels,
-        &mut output,
-    )?;
+    let rows = Rows {
+        registers: &registers,
+        paths: &paths,
+        fields: &fields,
+        labels: &labels,
+    };
+    show_listed(out, b"that clears, by its row:", rows, &mut output)?;
     case_io::put(out, &output)
 }
 
 fn main(rt: HostRuntime) -> io::Result<()> {
     let mut out = io::writer(&rt);
-    registers_short(&mut out)?;
-    paths_short(&mut out)?;
-    fields_short(&mut out)?;
-    labels_short(&mut out)?;
+    show_short::<13, 288, 8, 32, _>(&mut out, b"registers short by one:")?;
+    show_short::<14, 287, 8, 32, _>(&mut out, b"paths short by one:")?;
+    show_short::<14, 288, 7, 32, _>(&mut out, b"fields short by one:")?;
+    show_short::<14, 288, 8, 31, _>(&mut out, b"labels short by one:")?;
     just_fit(&mut out)?;
     no_rows(&mut out)?;
     not_lawful(&mut out)?;

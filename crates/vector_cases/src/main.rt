@@ -9,47 +9,39 @@ use std::{fs, io};
 // Room for a text or an answer, and the program's output buffer.
 const ROOM: usize = 65536;
 
-// What a case comes to.
-#[derive(Clone, Copy)]
-enum CaseOutcome {
-    Agrees,
-    Differs,
-    NoCase,
-}
-
-fn judge<W: Write>(out: &mut W, case: u64, text: &[u8], answer: &[u8]) -> io::Result<CaseOutcome> {
+// Whether the program answers this to a text; shows what it answers where it does not.
+fn is_answer<W: Write>(out: &mut W, case: u64, text: &[u8], answer: &[u8]) -> io::Result<bool> {
     let mut output = [0u8; ROOM];
     let count = reply::reply(text, &mut output);
     let given = &output[..count];
-    if chars::same(given, answer) {
-        return Ok(CaseOutcome::Agrees);
+    if given == answer {
+        return Ok(true);
     }
     case_io::put_number(out, b"", case)?;
     case_io::put(out, b" got: ")?;
     case_io::put(out, given)?;
-    Ok(CaseOutcome::Differs)
+    Ok(false)
 }
 
+// Whether the program answers the next text as the pack does, if there is one.
 fn run_case<R: Read, W: Write>(
     pack: &mut R,
     out: &mut W,
     case: u64,
     text_room: &mut [u8],
     answer_room: &mut [u8],
-) -> io::Result<CaseOutcome> {
+) -> io::Result<Option<bool>> {
     let text_length = case_io::read_length(pack)?;
     let answer_length = case_io::read_length(pack)?;
     let text = case_io::read_part(pack, text_length, text_room)?;
     let answer = case_io::read_part(pack, answer_length, answer_room)?;
-    if !text.whole || !answer.whole {
-        return Ok(CaseOutcome::NoCase);
+    match (text, answer) {
+        (Some(text), Some(answer)) => {
+            let agrees = is_answer(out, case, &text_room[..text], &answer_room[..answer])?;
+            Ok(Some(agrees))
+        }
+        _ => Ok(None),
     }
-    judge(
-        out,
-        case,
-        &text_room[..text.length],
-        &answer_room[..answer.length],
-    )
 }
 
 fn report<W: Write>(out: &mut W, cases: u64, agreed: u64) -> io::Result<()> {
@@ -63,15 +55,12 @@ fn main(rt: HostRuntime) -> io::Result<()> {
     let mut answer_room = [0u8; ROOM];
     let mut pack = fs::open(&rt, "level-03.pack")?;
     let mut out = io::writer(&rt);
-    let mut cases = 0;
     let mut agreed = 0;
-    while cases < MOST_CASES {
-        match run_case(&mut pack, &mut out, cases, &mut text_room, &mut answer_room)? {
-            CaseOutcome::Agrees => agreed += 1,
-            CaseOutcome::Differs => {}
-            CaseOutcome::NoCase => break,
+    for case in 0..MOST_CASES {
+        match run_case(&mut pack, &mut out, case, &mut text_room, &mut answer_room)? {
+            Some(agrees) => agreed += u64::from(agrees),
+            None => return report(&mut out, case, agreed),
         }
-        cases += 1;
     }
-    report(&mut out, cases, agreed)
+    report(&mut out, MOST_CASES, agreed)
 }

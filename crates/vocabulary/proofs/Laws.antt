@@ -12,13 +12,10 @@ use Rattle.vocabulary.specs.declared.Keyword.{Keyword}
 use Rattle.vocabulary.specs.declared.Lookup.{Lookup}
 use Rattle.vocabulary.specs.declared.Lookup.TheVariants.{Kept, LeftOut, NotKeyword}
 use Rattle.vocabulary.specs.declared.Property.{Property}
-use Rattle.vocabulary.specs.declared.PropertyLookup.{PropertyLookup}
-use Rattle.vocabulary.specs.declared.PropertyLookup.TheVariants.{Known, Unknown}
 use Rattle.vocabulary.specs.declared.Mark.{Mark}
 use Rattle.vocabulary.specs.declared.Mark.TheVariants as mark
-use Rattle.vocabulary.specs.declared.MarkLookup.{MarkLookup}
-use Rattle.vocabulary.specs.declared.MarkLookup.TheVariants.{IsMark, NoMark}
 use Rattle.vocabulary.specs.Vocabulary.{chosen, entry, spelling, kept_keywords, itself, leave, left_out_keywords, keyword_of, property_name, property_of, access_properties, effect_properties, other_properties, mark_bytes, mark_of, bracket_marks, separator_marks, suffix_marks, expression_marks}
+use Rattle.std.specs.Prelude.{Option, Some, None}
 
 module _ {B : Type 0} (w s : List ℕ) {r : Bool} (this other : B) (e : r ≡ same_bytes w s) where
   pub chosen_this : r ≡ true → this ≡ chosen w s this other
@@ -80,37 +77,37 @@ keyword_spelt w {k} =
     plain : NotKeyword ≡ Kept k → w ≡ spelling k
     plain f = absurd (let z : ◌≡◌ {A = ℕ} 0 1 = cc in omega arith)
 
-pub property_spelt : (w : List ℕ) {p : Property} → property_of w ≡ Known p → w ≡ property_name p
+pub property_spelt : (w : List ℕ) {p : Property} → property_of w ≡ Some p → w ≡ property_name p
 unfolding property_of
 property_spelt w {p} =
-    entry_holds property_name Known Unknown w (λ (x : PropertyLookup). x ≡ Known p → w ≡ property_name p) (λ a e f. e ∙ ap property_name (known f)) (λ f. unknown f)
+    entry_holds property_name Some None w (λ (x : Option Property). x ≡ Some p → w ≡ property_name p) (λ a e f. e ∙ ap property_name (known f)) (λ f. unknown f)
     (access_properties ++ (effect_properties ++ other_properties))
   where
-    known : {a : Property} → Known a ≡ Known p → a ≡ p
+    known : {a : Property} → Some a ≡ Some p → a ≡ p
     known f = cc
 
-    unknown : Unknown ≡ Known p → w ≡ property_name p
+    unknown : None ≡ Some p → w ≡ property_name p
     unknown f = absurd (let z : ◌≡◌ {A = ℕ} 0 1 = cc in omega arith)
 
-pub mark_spelt : (w : List ℕ) {m : Mark} → mark_of w ≡ IsMark m → w ≡ mark_bytes m
+pub mark_spelt : (w : List ℕ) {m : Mark} → mark_of w ≡ Some m → w ≡ mark_bytes m
 unfolding mark_of
 mark_spelt w {m} =
-    entry_holds mark_bytes IsMark NoMark w (λ (x : MarkLookup). x ≡ IsMark m → w ≡ mark_bytes m) (λ a e f. e ∙ ap mark_bytes (known f)) (λ f. unknown f)
+    entry_holds mark_bytes Some None w (λ (x : Option Mark). x ≡ Some m → w ≡ mark_bytes m) (λ a e f. e ∙ ap mark_bytes (known f)) (λ f. unknown f)
     (bracket_marks ++ (separator_marks ++ (suffix_marks ++ expression_marks)))
   where
-    known : {a : Mark} → IsMark a ≡ IsMark m → a ≡ m
+    known : {a : Mark} → Some a ≡ Some m → a ≡ m
     known f = cc
 
-    unknown : NoMark ≡ IsMark m → w ≡ mark_bytes m
+    unknown : None ≡ Some m → w ≡ mark_bytes m
     unknown f = absurd (let z : ◌≡◌ {A = ℕ} 0 1 = cc in omega arith)
 
 -- bytes that no mark has
-pub mark_none : (w : List ℕ) → ((m : Mark) → w ≡ mark_bytes m → ⊥) → NoMark ≡ mark_of w
+pub mark_none : (w : List ℕ) → ((m : Mark) → w ≡ mark_bytes m → ⊥) → None ≡ mark_of w
 mark_none w f = by (mark_of w) refl
   where
-    by : (x : MarkLookup) → mark_of w ≡ x → NoMark ≡ mark_of w
-    by (IsMark m) e = absurd (f m (mark_spelt w e))
-    by NoMark e = sym e
+    by : (x : Option Mark) → mark_of w ≡ x → None ≡ mark_of w
+    by (Some m) e = absurd (f m (mark_spelt w e))
+    by None e = sym e
 
 first : {a b : ℕ} {x y : List ℕ} → (a ∷ x) ≡ (b ∷ y) → a ≡ b
 first e = cc
@@ -122,7 +119,7 @@ long : (x y : List ℕ) → x ≡ y → (length x ≡ length y → ⊥) → ⊥
 long x y e f = f (ap length e)
 
 module _ (a : ℕ) where
-  pub single_none : (a ≡ 123 → ⊥) → (a ≡ 125 → ⊥) → (a ≡ 91 → ⊥) → (a ≡ 93 → ⊥) → (a ≡ 59 → ⊥) → (a ≡ 58 → ⊥) → (a ≡ 44 → ⊥) → (a ≡ 61 → ⊥) → (a ≡ 64 → ⊥) → (a ≡ 40 → ⊥) → (a ≡ 41 → ⊥) → (a ≡ 42 → ⊥) → (a ≡ 47 → ⊥) → (a ≡ 37 → ⊥) → (a ≡ 43 → ⊥) → (a ≡ 45 → ⊥) → (a ≡ 60 → ⊥) → (a ≡ 62 → ⊥) → (a ≡ 38 → ⊥) → (a ≡ 94 → ⊥) → (a ≡ 124 → ⊥) → NoMark ≡ mark_of (a ∷ [])
+  pub single_none : (a ≡ 123 → ⊥) → (a ≡ 125 → ⊥) → (a ≡ 91 → ⊥) → (a ≡ 93 → ⊥) → (a ≡ 59 → ⊥) → (a ≡ 58 → ⊥) → (a ≡ 44 → ⊥) → (a ≡ 61 → ⊥) → (a ≡ 64 → ⊥) → (a ≡ 40 → ⊥) → (a ≡ 41 → ⊥) → (a ≡ 42 → ⊥) → (a ≡ 47 → ⊥) → (a ≡ 37 → ⊥) → (a ≡ 43 → ⊥) → (a ≡ 45 → ⊥) → (a ≡ 60 → ⊥) → (a ≡ 62 → ⊥) → (a ≡ 38 → ⊥) → (a ≡ 94 → ⊥) → (a ≡ 124 → ⊥) → None ≡ mark_of (a ∷ [])
   single_none n1 n2 n3 n4 n5 n6 n7 n8 n9 n10 n11 n12 n13 n14 n15 n16 n17 n18 n19 n20 n21 = mark_none (a ∷ []) by
     where
       by : (m : Mark) → (a ∷ []) ≡ mark_bytes m → ⊥
@@ -156,7 +153,7 @@ module _ (a : ℕ) where
       by mark.Caret e = n20 (first e)
       by mark.Bar e = n21 (first e)
 
-  pub equals_none : (a ≡ 43 → ⊥) → (a ≡ 37 → ⊥) → (a ≡ 60 → ⊥) → (a ≡ 62 → ⊥) → (a ≡ 61 → ⊥) → (a ≡ 33 → ⊥) → NoMark ≡ mark_of (a ∷ 61 ∷ [])
+  pub equals_none : (a ≡ 43 → ⊥) → (a ≡ 37 → ⊥) → (a ≡ 60 → ⊥) → (a ≡ 62 → ⊥) → (a ≡ 61 → ⊥) → (a ≡ 33 → ⊥) → None ≡ mark_of (a ∷ 61 ∷ [])
   equals_none n1 n2 n3 n4 n5 n6 = mark_none (a ∷ 61 ∷ []) by
     where
       by : (m : Mark) → (a ∷ 61 ∷ []) ≡ mark_bytes m → ⊥
@@ -191,7 +188,7 @@ module _ (a : ℕ) where
       by mark.Bar e = long (a ∷ 61 ∷ []) (bytes "|") e (λ z. omega arith)
 
   module _ (b : ℕ) (o : b ≡ 61 → ⊥) where
-    pub unlike_none : (a ≡ b → ⊥) → NoMark ≡ mark_of (a ∷ b ∷ [])
+    pub unlike_none : (a ≡ b → ⊥) → None ≡ mark_of (a ∷ b ∷ [])
     unlike_none n = mark_none (a ∷ b ∷ []) by
       where
         by : (m : Mark) → (a ∷ b ∷ []) ≡ mark_bytes m → ⊥
@@ -225,7 +222,7 @@ module _ (a : ℕ) where
         by mark.Caret e = long (a ∷ b ∷ []) (bytes "^") e (λ z. omega arith)
         by mark.Bar e = long (a ∷ b ∷ []) (bytes "|") e (λ z. omega arith)
 
-    pub twice_none : (a ≡ b) → (a ≡ 60 → ⊥) → (a ≡ 62 → ⊥) → NoMark ≡ mark_of (a ∷ b ∷ [])
+    pub twice_none : (a ≡ b) → (a ≡ 60 → ⊥) → (a ≡ 62 → ⊥) → None ≡ mark_of (a ∷ b ∷ [])
     twice_none q n1 n2 = mark_none (a ∷ b ∷ []) by
       where
         by : (m : Mark) → (a ∷ b ∷ []) ≡ mark_bytes m → ⊥

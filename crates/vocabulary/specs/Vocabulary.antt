@@ -1,5 +1,5 @@
 -- The literal words of document 004 (document 01, "Words": keywords), the properties that the course takes, and the marks.
-use Rattle.std.specs.Prelude.{List, [], ◌∷◌, ◌++◌, ℕ}
+use Rattle.std.specs.Prelude.{List, [], ◌∷◌, ◌++◌, ℕ, Option, Some, None}
 use Rattle.chars.specs.Ascii.{bytes}
 use Rattle.std.specs.Prelude.{if◌then◌else◌}
 use Rattle.chars.specs.Same.{same_bytes}
@@ -9,12 +9,8 @@ use Rattle.vocabulary.specs.declared.Lookup.{Lookup}
 use Rattle.vocabulary.specs.declared.Lookup.TheVariants.{Kept, LeftOut, NotKeyword}
 use Rattle.vocabulary.specs.declared.Property.{Property}
 use Rattle.vocabulary.specs.declared.Property.TheVariants as property
-use Rattle.vocabulary.specs.declared.PropertyLookup.{PropertyLookup}
-use Rattle.vocabulary.specs.declared.PropertyLookup.TheVariants.{Known, Unknown}
 use Rattle.vocabulary.specs.declared.Mark.{Mark}
 use Rattle.vocabulary.specs.declared.Mark.TheVariants as mark
-use Rattle.vocabulary.specs.declared.MarkLookup.{MarkLookup}
-use Rattle.vocabulary.specs.declared.MarkLookup.TheVariants.{IsMark, NoMark}
 
 -- the answer for a word with the bytes `s`, and for any other
 unfoldable pub chosen : {B : Type 0} → List ℕ → List ℕ → B → B → B
@@ -132,8 +128,8 @@ abbrev pub other_properties : List Property
 other_properties = property.Regwidth ∷ property.Accesswidth ∷ property.Alignment ∷ property.Addressing ∷ property.Name ∷ property.Desc ∷ []
 
 -- which property a word names
-unfoldable pub property_of : List ℕ → PropertyLookup
-property_of w = entry property_name Known Unknown (access_properties ++ (effect_properties ++ other_properties)) w
+unfoldable pub property_of : List ℕ → Option Property
+property_of w = entry property_name Some None (access_properties ++ (effect_properties ++ other_properties)) w
 
 -- the bytes of each mark: `{ } [ ] ; : , = @ += %=`, and those of expressions, `( ) * / % + - << >> < <= > >= == != & ^ |`
 abbrev pub mark_bytes : Mark → List ℕ
@@ -184,5 +180,5 @@ abbrev pub expression_marks : List Mark
 expression_marks = mark.OpenParen ∷ mark.CloseParen ∷ mark.Times ∷ mark.Slash ∷ mark.Percent ∷ mark.Plus ∷ mark.Minus ∷ mark.ShiftLeft ∷ mark.ShiftRight ∷ mark.Less ∷ mark.AtMost ∷ mark.More ∷ mark.AtLeast ∷ mark.Same ∷ mark.Unlike ∷ mark.Ampersand ∷ mark.Caret ∷ mark.Bar ∷ []
 
 -- which mark some bytes are
-unfoldable pub mark_of : List ℕ → MarkLookup
-mark_of w = entry mark_bytes IsMark NoMark (bracket_marks ++ (separator_marks ++ (suffix_marks ++ expression_marks))) w
+unfoldable pub mark_of : List ℕ → Option Mark
+mark_of w = entry mark_bytes Some None (bracket_marks ++ (separator_marks ++ (suffix_marks ++ expression_marks))) w

@@ -9,7 +9,7 @@ ghost use Rattle.vocabulary.specs.Candidates.{keyword_among, candidates};
 use chars::same;
 
 // The kept keywords.
-#[derive(Clone, Copy)]
+#[derive(Clone, Copy, PartialEq, Eq)]
 pub enum Keyword {
     Addrmap,
     Regfile,
@@ -49,7 +49,7 @@ pub enum Lookup {
 }
 
 // The properties.
-#[derive(Clone, Copy)]
+#[derive(Clone, Copy, PartialEq, Eq)]
 pub enum Property {
     Sw,
     Hw,
@@ -68,15 +68,8 @@ pub enum Property {
     Desc,
 }
 
-// What a word is among the properties.
-#[derive(Clone, Copy)]
-pub enum PropertyLookup {
-    Known(Property),
-    Unknown,
-}
-
 // The marks.
-#[derive(Clone, Copy)]
+#[derive(Clone, Copy, PartialEq, Eq)]
 pub enum Mark {
     OpenBrace,
     CloseBrace,
@@ -109,35 +102,11 @@ pub enum Mark {
     Bar,
 }
 
-// What some bytes are among the marks.
-#[derive(Clone, Copy)]
-pub enum MarkLookup {
-    IsMark(Mark),
-    NoMark,
-}
-
 // The answer for a word that has the bytes of `text`, and for any other.
-fn choose(word: &[u8], text: &[u8], this: Lookup, other: Lookup) -> Lookup
+fn choose<T: Copy>(word: &[u8], text: &[u8], this: T, other: T) -> T
     ensures { result ≡ chosen word.now text.now this other }
 {
-    if same(word, text) {
-        return this;
-    }
-    other
-}
-
-fn choose_property(
-    word: &[u8],
-    text: &[u8],
-    this: PropertyLookup,
-    other: PropertyLookup,
-) -> PropertyLookup
-    ensures { result ≡ chosen word.now text.now this other }
-{
-    if same(word, text) {
-        return this;
-    }
-    other
+    if same(word, text) { this } else { other }
 }
 
 // Whether a word is the kept keyword with the bytes of `text`.
@@ -345,95 +314,42 @@ fn fourteen_byte_keyword(word: &[u8], first: u8) -> Lookup
     }
 }
 
+// Whether a word is the property with the bytes of `text`, or else what it is otherwise.
+fn known(word: &[u8], text: &[u8], property: Property, other: Option<Property>) -> Option<Property>
+    ensures { result ≡ chosen word.now text.now (Some property) other }
+{
+    choose(word, text, Some(property), other)
+}
+
 // Each function below tests the properties of one list, and answers `other` for a word that is none of them.
-fn access_property(word: &[u8], other: PropertyLookup) -> PropertyLookup
-    ensures { result ≡ entry property_name PropertyLookup.Known other access_properties word.now }
+fn access_property(word: &[u8], other: Option<Property>) -> Option<Property>
+    ensures { result ≡ entry property_name Some other access_properties word.now }
 {
-    let from_reset = choose_property(
-        word,
-        b"reset",
-        PropertyLookup::Known(Property::Reset),
-        other,
-    );
-    let from_hw = choose_property(word, b"hw", PropertyLookup::Known(Property::Hw), from_reset);
-    choose_property(word, b"sw", PropertyLookup::Known(Property::Sw), from_hw)
+    let from_reset = known(word, b"reset", Property::Reset, other);
+    let from_hw = known(word, b"hw", Property::Hw, from_reset);
+    known(word, b"sw", Property::Sw, from_hw)
 }
 
-fn effect_property(word: &[u8], other: PropertyLookup) -> PropertyLookup
-    ensures { result ≡ entry property_name PropertyLookup.Known other effect_properties word.now }
+fn effect_property(word: &[u8], other: Option<Property>) -> Option<Property>
+    ensures { result ≡ entry property_name Some other effect_properties word.now }
 {
-    let from_woset = choose_property(
-        word,
-        b"woset",
-        PropertyLookup::Known(Property::Woset),
-        other,
-    );
-    let from_woclr = choose_property(
-        word,
-        b"woclr",
-        PropertyLookup::Known(Property::Woclr),
-        from_woset,
-    );
-    let from_rset = choose_property(
-        word,
-        b"rset",
-        PropertyLookup::Known(Property::Rset),
-        from_woclr,
-    );
-    let from_rclr = choose_property(
-        word,
-        b"rclr",
-        PropertyLookup::Known(Property::Rclr),
-        from_rset,
-    );
-    let from_onwrite = choose_property(
-        word,
-        b"onwrite",
-        PropertyLookup::Known(Property::Onwrite),
-        from_rclr,
-    );
-    choose_property(
-        word,
-        b"onread",
-        PropertyLookup::Known(Property::Onread),
-        from_onwrite,
-    )
+    let from_woset = known(word, b"woset", Property::Woset, other);
+    let from_woclr = known(word, b"woclr", Property::Woclr, from_woset);
+    let from_rset = known(word, b"rset", Property::Rset, from_woclr);
+    let from_rclr = known(word, b"rclr", Property::Rclr, from_rset);
+    let from_onwrite = known(word, b"onwrite", Property::Onwrite, from_rclr);
+    known(word, b"onread", Property::Onread, from_onwrite)
 }
 
-fn other_property(word: &[u8], other: PropertyLookup) -> PropertyLookup
-    ensures { result ≡ entry property_name PropertyLookup.Known other other_properties word.now }
+fn other_property(word: &[u8], other: Option<Property>) -> Option<Property>
+    ensures { result ≡ entry property_name Some other other_properties word.now }
 {
-    let from_desc = choose_property(word, b"desc", PropertyLookup::Known(Property::Desc), other);
-    let from_name = choose_property(
-        word,
-        b"name",
-        PropertyLookup::Known(Property::Name),
-        from_desc,
-    );
-    let from_addressing = choose_property(
-        word,
-        b"addressing",
-        PropertyLookup::Known(Property::Addressing),
-        from_name,
-    );
-    let from_alignment = choose_property(
-        word,
-        b"alignment",
-        PropertyLookup::Known(Property::Alignment),
-        from_addressing,
-    );
-    let from_accesswidth = choose_property(
-        word,
-        b"accesswidth",
-        PropertyLookup::Known(Property::Accesswidth),
-        from_alignment,
-    );
-    choose_property(
-        word,
-        b"regwidth",
-        PropertyLookup::Known(Property::Regwidth),
-        from_accesswidth,
-    )
+    let from_desc = known(word, b"desc", Property::Desc, other);
+    let from_name = known(word, b"name", Property::Name, from_desc);
+    let from_addressing = known(word, b"addressing", Property::Addressing, from_name);
+    let from_alignment = known(word, b"alignment", Property::Alignment, from_addressing);
+    let from_accesswidth = known(word, b"accesswidth", Property::Accesswidth, from_alignment);
+    known(word, b"regwidth", Property::Regwidth, from_accesswidth)
 }
 
 // Whether a word is a keyword, and which. Its length and its first byte choose the keywords that it is compared with: four at most.
@@ -460,79 +376,79 @@ pub fn keyword_of(word: &[u8]) -> Lookup
 
 // Which property a word names.
 #[tactic(auto, unfolding(crate::specs::Vocabulary::property_of))]
-pub fn property_of(word: &[u8]) -> PropertyLookup
+pub fn property_of(word: &[u8]) -> Option<Property>
     ensures { result ≡ property_of word.now }
 {
-    let other = other_property(word, PropertyLookup::Unknown);
+    let other = other_property(word, None);
     let effect = effect_property(word, other);
     access_property(word, effect)
 }
 
 // Which mark a byte is.
 #[tactic(auto, unfolding(chars::specs::Same::same_bytes, crate::specs::Vocabulary::chosen, crate::specs::Vocabulary::entry, crate::specs::Vocabulary::mark_of))]
-pub fn single_mark(byte: u8) -> MarkLookup
+pub fn single_mark(byte: u8) -> Option<Mark>
     ensures { result ≡ mark_of (byte ∷ []) }
 {
     match byte {
-        b'{' => MarkLookup::IsMark(Mark::OpenBrace),
-        b'}' => MarkLookup::IsMark(Mark::CloseBrace),
-        b'[' => MarkLookup::IsMark(Mark::OpenBracket),
-        b']' => MarkLookup::IsMark(Mark::CloseBracket),
-        b';' => MarkLookup::IsMark(Mark::Semicolon),
-        b':' => MarkLookup::IsMark(Mark::Colon),
-        b',' => MarkLookup::IsMark(Mark::Comma),
-        b'=' => MarkLookup::IsMark(Mark::Equals),
-        b'@' => MarkLookup::IsMark(Mark::At),
-        b'(' => MarkLookup::IsMark(Mark::OpenParen),
-        b')' => MarkLookup::IsMark(Mark::CloseParen),
-        b'*' => MarkLookup::IsMark(Mark::Times),
-        b'/' => MarkLookup::IsMark(Mark::Slash),
-        b'%' => MarkLookup::IsMark(Mark::Percent),
-        b'+' => MarkLookup::IsMark(Mark::Plus),
-        b'-' => MarkLookup::IsMark(Mark::Minus),
-        b'<' => MarkLookup::IsMark(Mark::Less),
-        b'>' => MarkLookup::IsMark(Mark::More),
-        b'&' => MarkLookup::IsMark(Mark::Ampersand),
-        b'^' => MarkLookup::IsMark(Mark::Caret),
-        b'|' => MarkLookup::IsMark(Mark::Bar),
-        _ => MarkLookup::NoMark,
+        b'{' => Some(Mark::OpenBrace),
+        b'}' => Some(Mark::CloseBrace),
+        b'[' => Some(Mark::OpenBracket),
+        b']' => Some(Mark::CloseBracket),
+        b';' => Some(Mark::Semicolon),
+        b':' => Some(Mark::Colon),
+        b',' => Some(Mark::Comma),
+        b'=' => Some(Mark::Equals),
+        b'@' => Some(Mark::At),
+        b'(' => Some(Mark::OpenParen),
+        b')' => Some(Mark::CloseParen),
+        b'*' => Some(Mark::Times),
+        b'/' => Some(Mark::Slash),
+        b'%' => Some(Mark::Percent),
+        b'+' => Some(Mark::Plus),
+        b'-' => Some(Mark::Minus),
+        b'<' => Some(Mark::Less),
+        b'>' => Some(Mark::More),
+        b'&' => Some(Mark::Ampersand),
+        b'^' => Some(Mark::Caret),
+        b'|' => Some(Mark::Bar),
+        _ => None,
     }
 }
 
 // Which mark a byte and an equals sign are.
 #[tactic(auto, unfolding(chars::specs::Same::same_bytes, crate::specs::Vocabulary::chosen, crate::specs::Vocabulary::entry, crate::specs::Vocabulary::mark_of))]
-fn equals_mark(first: u8) -> MarkLookup
+fn equals_mark(first: u8) -> Option<Mark>
     ensures { result ≡ mark_of (first ∷ 61 ∷ []) }
 {
     match first {
-        b'+' => MarkLookup::IsMark(Mark::PlusEquals),
-        b'%' => MarkLookup::IsMark(Mark::PercentEquals),
-        b'<' => MarkLookup::IsMark(Mark::AtMost),
-        b'>' => MarkLookup::IsMark(Mark::AtLeast),
-        b'=' => MarkLookup::IsMark(Mark::Same),
-        b'!' => MarkLookup::IsMark(Mark::Unlike),
-        _ => MarkLookup::NoMark,
+        b'+' => Some(Mark::PlusEquals),
+        b'%' => Some(Mark::PercentEquals),
+        b'<' => Some(Mark::AtMost),
+        b'>' => Some(Mark::AtLeast),
+        b'=' => Some(Mark::Same),
+        b'!' => Some(Mark::Unlike),
+        _ => None,
     }
 }
 
 // Which mark a byte and another than an equals sign are.
 #[tactic(auto, unfolding(chars::specs::Same::same_bytes, crate::specs::Vocabulary::chosen, crate::specs::Vocabulary::entry, crate::specs::Vocabulary::mark_of))]
-fn twice_mark(first: u8, second: u8) -> MarkLookup
+fn twice_mark(first: u8, second: u8) -> Option<Mark>
     requires { second ≡ 61 → ⊥ }
     ensures { result ≡ mark_of (first ∷ second ∷ []) }
 {
     if first != second {
-        return MarkLookup::NoMark;
+        return None;
     }
     match first {
-        b'<' => MarkLookup::IsMark(Mark::ShiftLeft),
-        b'>' => MarkLookup::IsMark(Mark::ShiftRight),
-        _ => MarkLookup::NoMark,
+        b'<' => Some(Mark::ShiftLeft),
+        b'>' => Some(Mark::ShiftRight),
+        _ => None,
     }
 }
 
 // Which mark two bytes are.
-pub fn double_mark(first: u8, second: u8) -> MarkLookup
+pub fn double_mark(first: u8, second: u8) -> Option<Mark>
     ensures { result ≡ mark_of (first ∷ second ∷ []) }
 {
     if second == b'=' {
@@ -546,34 +462,14 @@ pub fn mark_length(mark: Mark) -> usize
     ensures { result ≡ length (mark_bytes mark) }
 {
     match mark {
-        Mark::OpenBrace => 1,
-        Mark::CloseBrace => 1,
-        Mark::OpenBracket => 1,
-        Mark::CloseBracket => 1,
-        Mark::Semicolon => 1,
-        Mark::Colon => 1,
-        Mark::Comma => 1,
-        Mark::Equals => 1,
-        Mark::At => 1,
-        Mark::PlusEquals => 2,
-        Mark::PercentEquals => 2,
-        Mark::OpenParen => 1,
-        Mark::CloseParen => 1,
-        Mark::Times => 1,
-        Mark::Slash => 1,
-        Mark::Percent => 1,
-        Mark::Plus => 1,
-        Mark::Minus => 1,
-        Mark::ShiftLeft => 2,
-        Mark::ShiftRight => 2,
-        Mark::Less => 1,
-        Mark::AtMost => 2,
-        Mark::More => 1,
-        Mark::AtLeast => 2,
-        Mark::Same => 2,
-        Mark::Unlike => 2,
-        Mark::Ampersand => 1,
-        Mark::Caret => 1,
-        Mark::Bar => 1,
+        Mark::PlusEquals
+        | Mark::PercentEquals
+        | Mark::ShiftLeft
+        | Mark::ShiftRight
+        | Mark::AtMost
+        | Mark::AtLeast
+        | Mark::Same
+        | Mark::Unlike => 2,
+        _ => 1,
     }
 }

@@ -2,10 +2,10 @@
 // first tokens, how many there are up to the end or a bad word, and the first refusal. tests/word_cases.py makes the cases.
 #![tactic(auto)]
 
-use case_io::{LONGEST_TEXT, MOST_CASES, put, put_number};
+use case_io::{LONGEST_TEXT, put, put_number};
 use lex::{Cause, Token, Word};
 use std::io;
-use std::io::{Read, Write};
+use std::io::Write;
 
 const SHOWN_TOKENS: usize = 12;
 
@@ -38,49 +38,29 @@ fn show_word<W: Write>(out: &mut W, word: Word, spelling: &[u8]) -> io::Result<(
 
 // A token of the text, or a note that it lies outside the text.
 fn show_token<W: Write>(out: &mut W, text: &[u8], token: Token) -> io::Result<()> {
-    let start = token.start;
-    let end = token.end;
-    if end > text.len() {
+    let Some(spelling) = text.get(token.start..token.end) else {
         return put(out, b" misplaced");
-    }
-    if start > end {
-        return put(out, b" misplaced");
-    }
-    show_word(out, token.word, &text[start..end])?;
-    put_number(out, b"@", start as u64)?;
-    put_number(out, b"-", end as u64)
-}
-
-// Whether no token is read past this one.
-fn is_last(word: Word) -> bool {
-    match word {
-        Word::End => true,
-        Word::Bad(_) => true,
-        Word::Name => false,
-        Word::Keyword(_) => false,
-        Word::Number(_) => false,
-        Word::String => false,
-        Word::Mark(_) => false,
-    }
+    };
+    show_word(out, token.word, spelling)?;
+    put_number(out, b"@", token.start as u64)?;
+    put_number(out, b"-", token.end as u64)
 }
 
 // Shows the first tokens of a text, and answers how many it has up to its end or first bad word. Each but the last has a byte, so
 // the bound on their count is never what ends the loop.
 fn show_tokens<W: Write>(out: &mut W, text: &[u8]) -> io::Result<usize> {
     let mut at = 0;
-    let mut count = 0;
-    while count <= LONGEST_TEXT {
+    for count in 0..=LONGEST_TEXT {
         let token = lex::next_token(text, at);
         if count < SHOWN_TOKENS {
             show_token(out, text, token)?;
         }
-        count += 1;
-        if is_last(token.word) {
-            break;
+        if matches!(token.word, Word::End | Word::Bad(_)) {
+            return Ok(count + 1);
         }
         at = token.end;
     }
-    Ok(count)
+    Ok(LONGEST_TEXT + 1)
 }
 
 fn show_case<W: Write>(out: &mut W, case: u64, text: &[u8]) -> io::Result<()> {
@@ -90,28 +70,6 @@ fn show_case<W: Write>(out: &mut W, case: u64, text: &[u8]) -> io::Result<()> {
     case_io::put_verdict(out, lex::first_refusal(text))
 }
 
-// Runs the next case; answers whether there was one.
-fn run_case<R: Read, W: Write>(
-    input: &mut R,
-    out: &mut W,
-    case: u64,
-    room: &mut [u8],
-) -> io::Result<bool> {
-    let text = case_io::read_text(input, room)?;
-    if text.whole {
-        show_case(out, case, &room[..text.length])?;
-    }
-    Ok(text.whole)
-}
-
 fn main(rt: HostRuntime) -> io::Result<()> {
-    let mut room = [0u8; LONGEST_TEXT];
-    let mut input = rt.reader();
-    let mut out = io::writer(&rt);
-    for case in 0..MOST_CASES {
-        if !run_case(&mut input, &mut out, case, &mut room)? {
-            break;
-        }
-    }
-    Ok(())
+    case_io::run_cases(&mut rt.reader(), &mut io::writer(&rt), show_case)
 }

@@ -7,7 +7,7 @@ loop-j-init c = search (rules, reset_loop)
 
 pub loop-j-preserved : goal.loop-j-preserved
 loop-j-preserved c =
-    (search rules, search rules, reset_on _ _ _ _ c.loop-j.invariant.2 (search rules) c.field_row.ensures c.reset_of.ensures)
+    reset_on _ _ _ _ c.loop-j.invariant (search rules) c.field_row.ensures c.reset_of.ensures
 
 pub returns : goal.returns
 returns c = search (rules, reset_loop)

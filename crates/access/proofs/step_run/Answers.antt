@@ -10,7 +10,7 @@ number_after-requires c = search field_usable
 
 pub loop-k-preserved : goal.loop-k-preserved
 loop-k-preserved c =
-    (search rules, search rules, step_on _ _ _ _ _ _ _ c.loop-k.invariant.2 c.field_row.ensures c.stored_field-field.ensures c.number_after.ensures)
+    step_on _ _ _ _ _ _ _ c.loop-k.invariant c.field_row.ensures c.stored_field-field.ensures c.number_after.ensures
 
 pub returns : goal.returns
 returns c = search (rules, step_loop)

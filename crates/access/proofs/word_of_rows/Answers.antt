@@ -15,7 +15,7 @@ word_of_run-word-requires c =
 
 pub loop-i-preserved : goal.loop-i-preserved
 loop-i-preserved c =
-    (search rules, joins_on _ _ _ _ c.args.store.now _ _ c.loop-i.invariant.1 c.register_row-row.ensures c.word_of_run-word.ensures)
+    joins_on _ _ _ _ c.args.store.now _ _ c.loop-i.invariant c.register_row-row.ensures c.word_of_run-word.ensures
 
 pub returns : goal.returns
 returns c = search (rules, joins_loop)

@@ -1,5 +1,4 @@
 -- The word has the bits that the fields give of the registers that are passed.
-use Prim.Native.Nat.{◌-◌, ◌≤◌}
 use mathlib.Core.Path.{◌≡◌}
 use Rattle.bits.specs.Bits.{number}
 use Rattle.model.specs.Model.{gives, bits_of}
@@ -7,7 +6,4 @@ use Rattle.access.specs.Runs.{stored_rows}
 use Rattle.access.proofs.word_of_rows.Given as goal
 
 abbrev pub invariant-loop-i : goal.invariant-loop-i
-invariant-loop-i l = (l.i ≤ l.count) × (l.word ≡ number l.width (gives (stored_rows l.registers l.fields 0 l.i) l.address l.width (bits_of l.store)))
-
-abbrev pub decreases-loop-i : goal.decreases-loop-i
-decreases-loop-i l = l.count - l.i
+invariant-loop-i l = l.word ≡ number l.width (gives (stored_rows l.registers l.fields 0 l.i) l.address l.width (bits_of l.store))

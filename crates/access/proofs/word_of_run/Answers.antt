@@ -10,7 +10,7 @@ word_of-word-requires c = search field_usable
 
 pub loop-k-preserved : goal.loop-k-preserved
 loop-k-preserved c =
-    (search rules, join_on _ _ _ _ _ c.args.store.now _ _ c.loop-k.invariant.1 c.field_row.ensures c.stored_field-field.ensures c.word_of-word.ensures)
+    join_on _ _ _ _ _ c.args.store.now _ _ c.loop-k.invariant c.field_row.ensures c.stored_field-field.ensures c.word_of-word.ensures
 
 pub returns : goal.returns
 returns c = search (rules, join_loop)

@@ -1,4 +1,3 @@
-use Prim.Native.Nat.{◌-◌}
 use Rattle.capped.proofs.Laws.{alignment_low, doubled_start, doubled_next, doubled_less, doubled_fits, doubled_cut, cut_capped}
 use Rattle.capped.proofs.common_multiple.Goals as goal
 

@@ -1,4 +1,3 @@
-use Prim.Native.Nat.{◌-◌}
 use Rattle.capped.proofs.Laws.{doubling_start, doubling_next, doubling_less, doubling_end}
 use Rattle.capped.proofs.power_above.Goals as goal
 

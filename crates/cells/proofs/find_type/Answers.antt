@@ -1,9 +1,6 @@
 use Rattle.cells.proofs.Laws.{seek_start, seek_here, seek_on, seek_end}
 use Rattle.cells.proofs.find_type.Goals as goal
 
-pub loop-at-init : goal.loop-at-init
-loop-at-init c = search seek_start
-
 pub returns-then-same_name : goal.returns-then-same_name
 returns-then-same_name c = search seek_here
 

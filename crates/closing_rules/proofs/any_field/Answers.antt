@@ -1,13 +1,6 @@
 use borrow.Author.Rules.{rules}
-use Prim.Native.Nat.{◌-◌}
 use Rattle.closing_rules.proofs.Laws.{ask_start, next_fits, top_fits, find_here, find_on, find_end}
 use Rattle.closing_rules.proofs.any_field.Goals as goal
-
-pub loop-i-init : goal.loop-i-init
-loop-i-init c = search (rules, ask_start)
-
-pub field_in-placed-requires : goal.field_in-placed-requires
-field_in-placed-requires c = search (rules, next_fits)
 
 pub breaks_in-requires : goal.breaks_in-requires
 breaks_in-requires c = search (rules, top_fits)

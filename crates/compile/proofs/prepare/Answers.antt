@@ -5,5 +5,5 @@ use Rattle.compile.proofs.prepare.Goals as goal
 
 pub returns : goal.returns
 returns c =
-    shaped _ _ _ c.requires.0 _ c.fill_shapes.ensures (omega (arith, c.shapes-1.given, c.requires.1))
+    shaped _ _ _ c.requires.0 _ c.fill_shapes.ensures (omega arith)
     c.keep_long_instances.ensures

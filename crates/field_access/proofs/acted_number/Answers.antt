@@ -1,6 +1,6 @@
 use borrow.Author.Rules.{rules}
 use Rattle.bits.proofs.BitLaws.{number_zero, number-below}
-use Rattle.field_access.proofs.FieldBits.{acted_more, acted_all}
+use Rattle.field_access.proofs.FieldBits.{acted_more}
 use Rattle.field_access.proofs.acted_number.Goals as goal
 
 pub loop-i-init : goal.loop-i-init
@@ -11,6 +11,3 @@ with_bit-lower-requires c = search (rules, number-below)
 
 pub loop-i-preserved : goal.loop-i-preserved
 loop-i-preserved c = search (rules, acted_more)
-
-pub returns : goal.returns
-returns c = search acted_all

@@ -1,12 +1,8 @@
 -- The number of the bits that the loop has passed.
-use Prim.Native.Nat.{◌-◌, ◌≤◌}
 use mathlib.Core.Path.{◌≡◌}
 use Rattle.bits.specs.Bits.{number}
 use Rattle.field_access.proofs.FieldBits.{acted_bit}
 use Rattle.field_access.proofs.acted_number.Given as goal
 
 abbrev pub invariant-loop-i : goal.invariant-loop-i
-invariant-loop-i l = (l.i ≤ l.count) × (l.lower ≡ number l.i (acted_bit l.access l.field l.stored))
-
-abbrev pub decreases-loop-i : goal.decreases-loop-i
-decreases-loop-i l = l.count - l.i
+invariant-loop-i l = l.lower ≡ number l.i (acted_bit l.access l.field l.stored)

@@ -1,6 +1,5 @@
 use borrow.Author.Rules.{rules}
 use Rattle.bits.proofs.BitLaws.{number_more, number-below, number_zero}
-use Rattle.field_access.proofs.FieldBits.{number_all}
 use Rattle.field_access.proofs.word_of.Goals as goal
 
 pub loop-j-init : goal.loop-j-init
@@ -11,6 +10,3 @@ with_bit-lower-requires c = search (rules, number-below)
 
 pub loop-j-preserved : goal.loop-j-preserved
 loop-j-preserved c = search (rules, number_more)
-
-pub returns : goal.returns
-returns c = search number_all

@@ -6,11 +6,11 @@ use Rattle.lex.proofs.mark_token.Goals as goal
 
 pub overflow_add-result : goal.overflow_add-result
 overflow_add-result c =
-    let h = mark_room _ _ c.requires c.mark_at.ensures c.in-IsMark.is c.mark_length.ensures in
+    let h = mark_room _ _ c.requires c.mark_at.ensures c.in-Some.is c.mark_length.ensures in
     omega arith
 
-pub returns-in-IsMark : goal.returns-in-IsMark
-returns-in-IsMark c = search mark_token_lem
+pub returns-in-Some : goal.returns-in-Some
+returns-in-Some c = search mark_token_lem
 
-pub returns-in-NoMark : goal.returns-in-NoMark
-returns-in-NoMark c = search mark_none
+pub returns-in-None : goal.returns-in-None
+returns-in-None c = search mark_none

@@ -1,4 +1,3 @@
-use Prim.Native.Nat.{◌-◌}
 use borrow.Author.Rules.{rules}
 use Rattle.lex.proofs.Scan.{next_end, next_blank, next_word, next_last, next_line, next_block, next_slash, line_stop, line_more, line_close, block_stop, block_close, block_star, block_more}
 use Rattle.lex.proofs.next_start.Goals as goal

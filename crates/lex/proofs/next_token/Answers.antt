@@ -2,8 +2,8 @@
 use Rattle.lex.proofs.Tokens.{token_past_lem, token_open}
 use Rattle.lex.proofs.next_token.Goals as goal
 
-pub returns-in-At : goal.returns-in-At
-returns-in-At c = search token_past_lem
+pub returns-in-Ok : goal.returns-in-Ok
+returns-in-Ok c = search token_past_lem
 
-pub returns-in-Unclosed : goal.returns-in-Unclosed
-returns-in-Unclosed c = search token_open
+pub returns-in-Err : goal.returns-in-Err
+returns-in-Err c = search token_open

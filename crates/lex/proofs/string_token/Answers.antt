@@ -9,19 +9,19 @@ overflow_sub-q c = search quote_after
 
 pub overflow_add-result : goal.overflow_add-result
 overflow_add-result c =
-    let h = quote_before _ _ c.string_close.ensures c.in-At.is c.requires in
+    let h = quote_before _ _ c.string_close.ensures c.in-Ok.is c.requires in
     omega arith
 
 pub returns-then-q-i-gt-STRING_LIMIT : goal.returns-then-q-i-gt-STRING_LIMIT
 returns-then-q-i-gt-STRING_LIMIT c = search string_long
 
-pub overflow_add-result-in-At : goal.overflow_add-result-in-At
-overflow_add-result-in-At c =
-    let h = quote_before _ _ c.string_close.ensures c.in-At.is c.requires in
+pub overflow_add-result-in-Ok : goal.overflow_add-result-in-Ok
+overflow_add-result-in-Ok c =
+    let h = quote_before _ _ c.string_close.ensures c.in-Ok.is c.requires in
     omega arith
 
 pub returns-else-q-i-gt-STRING_LIMIT : goal.returns-else-q-i-gt-STRING_LIMIT
 returns-else-q-i-gt-STRING_LIMIT c = search string_short
 
-pub returns-in-Unclosed : goal.returns-in-Unclosed
-returns-in-Unclosed c = search string_open
+pub returns-in-Err : goal.returns-in-Err
+returns-in-Err c = search string_open

@@ -1,9 +1,6 @@
 use borrow.Author.Rules.{rules}
-use Rattle.listing.proofs.Loops.{fields_start, fields_on, fields_end}
+use Rattle.listing.proofs.Loops.{fields_on, fields_end}
 use Rattle.listing.proofs.put_fields.Goals as goal
-
-pub loop-k-init : goal.loop-k-init
-loop-k-init c = search (rules, fields_start)
 
 pub loop-k-preserved : goal.loop-k-preserved
 loop-k-preserved c = search (rules, fields_on)

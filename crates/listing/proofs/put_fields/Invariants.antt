@@ -1,14 +1,9 @@
 -- What is left of the run comes to what all of it comes to.
-use Prim.Native.Nat.{◌+◌, ◌-◌, ◌≤◌}
-use mathlib.Core.Path.{◌≡◌}
-use lib.ListN.{length}
+use Prim.Native.Nat.{◌+◌, ◌-◌}
 use Rattle.lines.proofs.Pouring.{Pouring}
 use Rattle.rows.specs.Reading.{fields_from}
 use Rattle.listing.specs.Listing.{fields_lines}
 use Rattle.listing.proofs.put_fields.Given as goal
 
 abbrev pub invariant-loop-k : goal.invariant-loop-k
-invariant-loop-k l = (Pouring l.room l.initial.out l.out l.initial.sink (fields_lines (fields_from l.fields l.labels l.first l.count)) l.sink (fields_lines (fields_from l.fields l.labels (l.first + l.k) (l.count - l.k)))) × (length l.out ≡ length l.initial.out) × (l.k ≤ l.count)
-
-abbrev pub decreases-loop-k : goal.decreases-loop-k
-decreases-loop-k l = l.count - l.k
+invariant-loop-k l = (Pouring l.room l.initial.out l.out l.initial.sink (fields_lines (fields_from l.fields l.labels l.first l.count)) l.sink (fields_lines (fields_from l.fields l.labels (l.first + l.k) (l.count - l.k))))

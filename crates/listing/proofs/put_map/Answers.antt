@@ -1,10 +1,7 @@
 use borrow.Author.Rules.{rules}
 use Rattle.listing.proofs.Lines.{map_pours}
-use Rattle.listing.proofs.Loops.{entries_start, entries_on, entries_end}
+use Rattle.listing.proofs.Loops.{entries_on, entries_end}
 use Rattle.listing.proofs.put_map.Goals as goal
-
-pub loop-i-init : goal.loop-i-init
-loop-i-init c = search (rules, entries_start)
 
 pub put_entry-sink-requires : goal.put_entry-sink-requires
 put_entry-sink-requires c =
@@ -14,4 +11,4 @@ pub loop-i-preserved : goal.loop-i-preserved
 loop-i-preserved c = search (rules, entries_on)
 
 pub returns : goal.returns
-returns c = map_pours _ c.put_name_line-sink.ensures (entries_end _ _ _ _ c.loop-i.invariant.0 c.loop-i-test.false)
+returns c = map_pours _ c.put_name_line-sink.ensures (entries_end _ _ _ _ c.loop-i.invariant c.loop-i-test.false)

@@ -1,7 +1,7 @@
 -- What is left of the registers comes to what all of them come to.
-use Prim.Native.Nat.{◌-◌, ◌≤◌}
-use mathlib.Core.Path.{◌≡◌}
+use Prim.Native.Nat.{◌-◌, ◌/◌}
 use lib.ListN.{length}
+use Rattle.basics.specs.Limits.{register_row_width}
 use Rattle.lines.proofs.Pouring.{Pouring}
 use Rattle.rows.specs.Rows.{tables}
 use Rattle.rows.specs.Reading.{name_at, entries_from}
@@ -9,7 +9,4 @@ use Rattle.listing.specs.Listing.{entries_lines}
 use Rattle.listing.proofs.put_map.Given as goal
 
 abbrev pub invariant-loop-i : goal.invariant-loop-i
-invariant-loop-i l = (Pouring l.room l.initial.out l.out l.initial.sink (entries_lines (name_at l.paths 0) (entries_from (tables l.registers l.paths l.fields l.labels) 0 l.count)) l.sink (entries_lines (name_at l.paths 0) (entries_from (tables l.registers l.paths l.fields l.labels) l.i (l.count - l.i)))) × (length l.out ≡ length l.initial.out) × (l.i ≤ l.count)
-
-abbrev pub decreases-loop-i : goal.decreases-loop-i
-decreases-loop-i l = l.count - l.i
+invariant-loop-i l = (Pouring l.room l.initial.out l.out l.initial.sink (entries_lines (name_at l.paths 0) (entries_from (tables l.registers l.paths l.fields l.labels) 0 (length l.registers / register_row_width))) l.sink (entries_lines (name_at l.paths 0) (entries_from (tables l.registers l.paths l.fields l.labels) l.i (length l.registers / register_row_width - l.i))))

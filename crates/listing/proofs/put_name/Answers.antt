@@ -1,9 +1,6 @@
 use borrow.Author.Rules.{rules}
-use Rattle.listing.proofs.Loops.{name_start, name_on, name_stop, name_end}
+use Rattle.listing.proofs.Loops.{name_on, name_stop, name_end}
 use Rattle.listing.proofs.put_name.Goals as goal
-
-pub loop-k-init : goal.loop-k-init
-loop-k-init c = search (rules, name_start)
 
 pub returns-then-byte-eq0 : goal.returns-then-byte-eq0
 returns-then-byte-eq0 c = search (rules, name_stop)

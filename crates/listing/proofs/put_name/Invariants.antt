@@ -1,14 +1,9 @@
 -- What is left of the name comes to what all of it comes to.
-use Prim.Native.Nat.{◌+◌, ◌-◌, ◌≤◌}
-use mathlib.Core.Path.{◌≡◌}
-use lib.ListN.{length}
+use Prim.Native.Nat.{◌+◌, ◌-◌}
 use Rattle.basics.specs.Limits.{name_width}
 use Rattle.lines.proofs.Pouring.{Pouring}
 use Rattle.rows.specs.Reading.{name_from, name_at}
 use Rattle.listing.proofs.put_name.Given as goal
 
 abbrev pub invariant-loop-k : goal.invariant-loop-k
-invariant-loop-k l = (Pouring l.room l.initial.out l.out l.initial.sink (name_at l.names l.at) l.sink (name_from l.names (l.at + l.k) (name_width - l.k))) × (length l.out ≡ length l.initial.out) × (l.k ≤ name_width)
-
-abbrev pub decreases-loop-k : goal.decreases-loop-k
-decreases-loop-k l = name_width - l.k
+invariant-loop-k l = (Pouring l.room l.initial.out l.out l.initial.sink (name_at l.names l.at) l.sink (name_from l.names (l.at + l.k) (name_width - l.k)))

@@ -1,12 +1,14 @@
-use mathlib.Core.Path.{◌∙◌}
-use Rattle.map_walk.proofs.Arrays.{array_start, array_end, element_fits, index_fits, array_falls, array_fault_lem, array_on}
-use Prim.Native.Nat.{◌-◌}
+use Rattle.std.proofs.Common.{ap, ◌∙◌}
+use Rattle.std.proofs.lemmas.Result.{err_from_is_err_and}
+use Rattle.basics.specs.Judged.{judged}
+use Rattle.map_walk.specs.Runs.{walked}
+use Rattle.map_walk.proofs.Arrays.{array_start, array_end, element_fits, index_fits, array_fault_lem, array_on}
 use native.Mathlib.Omega.{arith}
-use borrow.Fn.PlainCycle.{is}
-use Rattle.map_walk.proofs.Bodies.{span_low, walking_start, walking_low, walking_end, walking_falls, walking_stop, walking_fits, walking_placed, walking_kid, walking_fault, walking_on}
+use Rattle.map_walk.proofs.Bodies.{walking_start, walking_low, walking_end, walking_stop, walking_fits, walking_placed, walking_kid, walking_fault, walking_on}
 use Rattle.map_walk.proofs.Rowed.{shaped_span}
 use Rattle.cells.proofs.Laws.{child_low}
-use Rattle.map_walk.proofs.Contents.{inside_level, inside_fits, inside_group, inside_children, content_none, content_field, content_register, regfile_row, map_row, content_group, element_deep, element_stops, element_goes}
+use Rattle.sizes.proofs.Laws.{group_row}
+use Rattle.map_walk.proofs.Contents.{inside_level, inside_fits, inside_group, inside_children, content_none, content_leaf, leaf_row, content_group, element_deep, element_stops, element_goes}
 use Rattle.map_walk.proofs.+walk_array_walk_children_walk_content_walk_element.Goals as goal
 
 pub walk_array-loop-k-init : goal.walk_array-loop-k-init
@@ -22,31 +24,23 @@ walk_array-walk_element-requires t c =
     let l = element_fits _ _ _ _ _ _ _ _ c.loop-k.invariant c.requires.2 c.element_of-item.ensures in
     (omega arith, (c.requires.0, c.requires.1, l.0, l.1, c.loop-k.invariant.small))
 
-pub walk_array-shape_of-log-in-Refused : goal.walk_array-shape_of-log-in-Refused
-walk_array-shape_of-log-in-Refused t c =
+pub walk_array-shape_of-log-in_err-tally : goal.walk_array-shape_of-log-in_err-tally
+walk_array-shape_of-log-in_err-tally t c =
     c.walk_element.auto.log ∙ c.loop-k.invariant.long
 
-pub walk_array-returns-in-Refused : goal.walk_array-returns-in-Refused
-walk_array-returns-in-Refused t c =
-    array_fault_lem _ _ _ _ _ _ _ _ c.loop-k.invariant c.elements_of-count.ensures c.loop-k-test.true c.element_of-item.ensures c.walk_element.ensures c.in-Refused.is
+pub walk_array-returns-in_err-tally : goal.walk_array-returns-in_err-tally
+walk_array-returns-in_err-tally t c =
+    let p = err_from_is_err_and c.from_residual.result c.from_residual.ensures.1 in
+    rw (p.1, p.2) (array_fault_lem _ _ _ _ _ _ _ _ c.loop-k.invariant c.elements_of-count.ensures c.loop-k-test.true c.element_of-item.ensures c.walk_element.ensures (ap walked c.in_err-tally.was))
 
 pub walk_array-sum-requires : goal.walk_array-sum-requires
 walk_array-sum-requires t c =
     (c.loop-k.invariant.low, c.requires.2.stride)
 
-pub walk_array-overflow_add-k : goal.walk_array-overflow_add-k
-walk_array-overflow_add-k t c =
-    let l = index_fits _ _ _ _ _ _ _ _ c.loop-k.invariant c.elements_of-count.ensures c.loop-k-test.true c.requires.2 in
-    omega (arith, l)
-
-pub walk_array-loop-k-smaller : goal.walk_array-loop-k-smaller
-walk_array-loop-k-smaller t c =
-    array_falls _ _ _ _ _ _ _ _ c.loop-k.invariant c.elements_of-count.ensures c.loop-k-test.true
-
 pub walk_array-loop-k-preserved : goal.walk_array-loop-k-preserved
 walk_array-loop-k-preserved t c =
     array_on _ _ _ _ _ _ _ _ c.loop-k.invariant c.elements_of-count.ensures c.loop-k-test.true c.element_of-item.ensures
-    c.walk_element.ensures c.walk_element.auto.log c.in-Done.is c.sum.ensures
+    c.walk_element.ensures c.walk_element.auto.log (ap walked c.in_ok-tally.was) c.sum.ensures
 
 pub walk_array-shape_of-log : goal.walk_array-shape_of-log
 walk_array-shape_of-log t c = c.loop-k.invariant.long
@@ -62,26 +56,26 @@ pub walk_children-loop-i-init : goal.walk_children-loop-i-init
 walk_children-loop-i-init t c =
     walking_start _ _ _ _ _ _ _ _ _ _ c.requires.0 c.requires.1.row c.requires.2 c.requires.3 c.instances_of-span.ensures
 
-pub walk_children-shape_of-log-in-Refused : goal.walk_children-shape_of-log-in-Refused
-walk_children-shape_of-log-in-Refused t c =
+pub walk_children-shape_of-log-in_err-inner : goal.walk_children-shape_of-log-in_err-inner
+walk_children-shape_of-log-in_err-inner t c =
     c.loop-i.invariant.long
 
-pub walk_children-returns-in-Refused : goal.walk_children-returns-in-Refused
-walk_children-returns-in-Refused t c =
-    walking_stop _ _ _ _ _ _ _ _ _ _ c.loop-i.invariant c.loop-i-test.true c.child_at.ensures c.in-Refused.is
+pub walk_children-returns-in_err-inner : goal.walk_children-returns-in_err-inner
+walk_children-returns-in_err-inner t c =
+    walking_stop _ _ _ _ _ _ _ _ _ _ c.loop-i.invariant c.loop-i-test.true c.child_at.ensures (ap judged c.in_err-inner.was)
 
 pub walk_children-shape_at-shape-requires : goal.walk_children-shape_at-shape-requires
-walk_children-shape_at-shape-requires t c = child_low _ _ c.child_at.ensures c.in-Done.is
+walk_children-shape_at-shape-requires t c = child_low _ _ c.child_at.ensures (ap judged c.in_ok-inner.was)
 
 pub walk_children-lay-laid-requires : goal.walk_children-lay-laid-requires
 walk_children-lay-laid-requires t c = (
-  walking_fits _ _ _ _ _ _ _ _ _ _ c.loop-i.invariant c.loop-i-test.true c.child_at.ensures c.requires.0 c.requires.1.row c.in-Done.is c.shape_at-shape.ensures,
+  walking_fits _ _ _ _ _ _ _ _ _ _ c.loop-i.invariant c.loop-i-test.true c.child_at.ensures c.requires.0 c.requires.1.row (ap judged c.in_ok-inner.was) c.shape_at-shape.ensures,
   walking_low _ _ _ _ _ _ _ _ _ _ c.loop-i.invariant,
 )
 
 pub walk_children-kid_of-kid-requires : goal.walk_children-kid_of-kid-requires
 walk_children-kid_of-kid-requires t c =
-    walking_placed _ _ _ _ _ _ _ _ _ _ c.loop-i.invariant c.loop-i-test.true c.child_at.ensures c.requires.0 c.requires.1.row c.in-Done.is c.shape_at-shape.ensures
+    walking_placed _ _ _ _ _ _ _ _ _ _ c.loop-i.invariant c.loop-i-test.true c.child_at.ensures c.requires.0 c.requires.1.row (ap judged c.in_ok-inner.was) c.shape_at-shape.ensures
     c.lay-laid.ensures c.requires.1.address
 
 pub walk_children-walk_array-requires : goal.walk_children-walk_array-requires
@@ -90,32 +84,26 @@ walk_children-walk_array-requires t c = (
   (
     c.requires.0,
     c.requires.1,
-    walking_kid _ _ _ _ _ _ _ _ _ _ c.loop-i.invariant c.loop-i-test.true c.child_at.ensures c.requires.0 c.requires.1.row c.in-Done.is c.shape_at-shape.ensures c.lay-laid.ensures c.kid_of-kid.ensures,
+    walking_kid _ _ _ _ _ _ _ _ _ _ c.loop-i.invariant c.loop-i-test.true c.child_at.ensures c.requires.0 c.requires.1.row (ap judged c.in_ok-inner.was) c.shape_at-shape.ensures c.lay-laid.ensures c.kid_of-kid.ensures,
     c.loop-i.invariant.small,
   ),
 )
 
-pub walk_children-shape_of-log-in-Refused-walk_array : goal.walk_children-shape_of-log-in-Refused-walk_array
-walk_children-shape_of-log-in-Refused-walk_array t c =
+pub walk_children-shape_of-log-in_err-tally : goal.walk_children-shape_of-log-in_err-tally
+walk_children-shape_of-log-in_err-tally t c =
     c.walk_array.auto.log ∙ c.loop-i.invariant.long
 
-pub walk_children-returns-in-Refused-walk_array : goal.walk_children-returns-in-Refused-walk_array
-walk_children-returns-in-Refused-walk_array t c =
-    walking_fault _ _ _ _ _ _ _ _ _ _ c.loop-i.invariant c.loop-i-test.true c.child_at.ensures c.requires.0 c.requires.1.row c.in-Done.is c.shape_at-shape.ensures
-    c.lay-laid.ensures c.kid_of-kid.ensures c.walk_array.ensures c.in-Refused-walk_array.is
-
-pub walk_children-overflow_add-i : goal.walk_children-overflow_add-i
-walk_children-overflow_add-i t c =
-    omega (arith, c.loop-i-test.true, span_low _ _ _ c.requires.0 c.requires.1.row c.instances_of-span.ensures)
-
-pub walk_children-loop-i-smaller : goal.walk_children-loop-i-smaller
-walk_children-loop-i-smaller t c =
-    walking_falls _ _ _ _ _ _ _ _ _ _ c.loop-i.invariant c.loop-i-test.true
+pub walk_children-returns-in_err-tally : goal.walk_children-returns-in_err-tally
+walk_children-returns-in_err-tally t c =
+    let p = err_from_is_err_and c.from_residual-in_err-tally.result c.from_residual-in_err-tally.ensures.1 in
+    rw (p.1, p.2)
+    (walking_fault _ _ _ _ _ _ _ _ _ _ c.loop-i.invariant c.loop-i-test.true c.child_at.ensures c.requires.0 c.requires.1.row (ap judged c.in_ok-inner.was) c.shape_at-shape.ensures
+    c.lay-laid.ensures c.kid_of-kid.ensures c.walk_array.ensures (ap walked c.in_err-tally.was))
 
 pub walk_children-loop-i-preserved : goal.walk_children-loop-i-preserved
 walk_children-loop-i-preserved t c =
-    walking_on _ _ _ _ _ _ _ _ _ _ c.loop-i.invariant c.loop-i-test.true c.child_at.ensures c.requires.0 c.requires.1.row c.in-Done.is c.shape_at-shape.ensures
-    c.lay-laid.ensures c.kid_of-kid.ensures c.walk_array.ensures c.walk_array.auto.log c.in-Done-walk_array.is
+    walking_on _ _ _ _ _ _ _ _ _ _ c.loop-i.invariant c.loop-i-test.true c.child_at.ensures c.requires.0 c.requires.1.row (ap judged c.in_ok-inner.was) c.shape_at-shape.ensures
+    c.lay-laid.ensures c.kid_of-kid.ensures c.walk_array.ensures c.walk_array.auto.log (ap walked c.in_ok-tally.was)
 
 pub walk_children-shape_of-log : goal.walk_children-shape_of-log
 walk_children-shape_of-log t c = c.loop-i.invariant.long
@@ -138,55 +126,40 @@ pub walk_content-walk_children-requires : goal.walk_content-walk_children-requir
 walk_content-walk_children-requires t c =
     let q = c.one_level_down-inside.ensures in (
       omega (arith, c.if-site-eq0.false, inside_level _ q),
-      (c.requires.0, inside_fits _ q c.requires.1, inside_group _ q _ (regfile_row _ _ c.component_at.ensures c.in-Regfile.is), c.requires.2),
-    )
-
-pub walk_content-walk_children-requires-in-Addrmap : goal.walk_content-walk_children-requires-in-Addrmap
-walk_content-walk_children-requires-in-Addrmap t c =
-    let q = c.one_level_down-inside.ensures in (
-      omega (arith, c.if-site-eq0.false, inside_level _ q),
-      (c.requires.0, inside_fits _ q c.requires.1, inside_group _ q _ (map_row _ _ c.component_at.ensures c.in-Addrmap.is), c.requires.2),
+      (c.requires.0, inside_fits _ q c.requires.1, inside_group _ q _ (group_row _ _ c.component_at.ensures c.in-Regfile.is), c.requires.2),
     )
 
 pub walk_content-returns-in-Field : goal.walk_content-returns-in-Field
 walk_content-returns-in-Field t c =
-    content_field _ _ _ _ _ _ _ _ c.requires.2 c.requires.0 c.requires.1.row c.component_at.ensures c.in-Field.is
-
-pub walk_content-returns-in-Register : goal.walk_content-returns-in-Register
-walk_content-returns-in-Register t c =
-    content_register _ _ _ _ _ _ _ _ c.requires.2 c.requires.0 c.requires.1.row c.component_at.ensures c.in-Register.is
+    content_leaf _ _ _ _ _ _ _ _ c.requires.2 c.requires.0 c.requires.1.row c.component_at.ensures (leaf_row c.in-Field.is)
 
 pub walk_content-returns-in-Regfile : goal.walk_content-returns-in-Regfile
 walk_content-returns-in-Regfile t c =
     content_group _ _ _ _ _ _ _ _ c.requires.2 c.requires.0 c.requires.1.row c.component_at.ensures c.if-site-eq0.false
-    (regfile_row _ _ c.component_at.ensures c.in-Regfile.is) (inside_children _ c.one_level_down-inside.ensures c.walk_children.ensures)
+    (group_row _ _ c.component_at.ensures c.in-Regfile.is) (inside_children _ c.one_level_down-inside.ensures c.walk_children.ensures)
 
-pub walk_content-returns-in-Addrmap : goal.walk_content-returns-in-Addrmap
-walk_content-returns-in-Addrmap t c =
-    content_group _ _ _ _ _ _ _ _ c.requires.2 c.requires.0 c.requires.1.row c.component_at.ensures c.if-site-eq0.false
-    (map_row _ _ c.component_at.ensures c.in-Addrmap.is) (inside_children _ c.one_level_down-inside.ensures c.walk_children-in-Addrmap.ensures)
-
-pub walk_element-returns-then-before-eq-NEST_LIMIT : goal.walk_element-returns-then-before-eq-NEST_LIMIT
-walk_element-returns-then-before-eq-NEST_LIMIT t c = element_deep _ _ _ _ _ _ _ c.if-before-eq-NEST_LIMIT.true
+pub walk_element-returns-then-site-eq-NEST_LIMIT : goal.walk_element-returns-then-site-eq-NEST_LIMIT
+walk_element-returns-then-site-eq-NEST_LIMIT t c = rw c.at.ensures (element_deep _ _ _ _ _ _ _ c.if-site-eq-NEST_LIMIT.true)
 
 pub walk_element-deeper-trail-requires : goal.walk_element-deeper-trail-requires
 walk_element-deeper-trail-requires t c =
-    omega (arith, c.requires.1.depth, c.if-before-eq-NEST_LIMIT.false)
+    omega (arith, c.requires.1.depth, c.if-site-eq-NEST_LIMIT.false)
 
 pub walk_element-visit-requires : goal.walk_element-visit-requires
 walk_element-visit-requires t c =
-    (c.requires.0, c.requires.2, c.requires.3, c.requires.4, omega (arith, c.requires.1.depth, c.if-before-eq-NEST_LIMIT.false, c.deeper-trail.ensures.0))
+    (c.requires.0, c.requires.2, c.requires.3, c.requires.4, omega (arith, c.requires.1.depth, c.if-site-eq-NEST_LIMIT.false, c.deeper-trail.ensures.0))
 
 pub walk_element-walk_content-requires : goal.walk_element-walk_content-requires
 walk_element-walk_content-requires t c = (
   omega arith,
-  (c.requires.0, record { row = c.requires.2; address = c.requires.3; depth = omega (arith, c.requires.1.depth, c.if-before-eq-NEST_LIMIT.false, c.deeper-trail.ensures.0) }, c.visit.ensures.small _ c.in-Done.is),
+  (c.requires.0, record { row = c.requires.2; address = c.requires.3; depth = omega (arith, c.requires.1.depth, c.if-site-eq-NEST_LIMIT.false, c.deeper-trail.ensures.0) }, c.visit.ensures.small _ (ap walked c.in_ok-next.was)),
 )
 
-pub walk_element-returns-in-Refused : goal.walk_element-returns-in-Refused
-walk_element-returns-in-Refused t c =
-    element_stops _ _ _ _ _ _ _ c.requires.1.depth c.if-before-eq-NEST_LIMIT.false c.deeper-trail.ensures c.visit.ensures c.in-Refused.is
+pub walk_element-returns-in_err-next : goal.walk_element-returns-in_err-next
+walk_element-returns-in_err-next t c =
+    let p = err_from_is_err_and c.from_residual.result c.from_residual.ensures.1 in
+    rw (p.1, p.2) (element_stops _ _ _ _ _ _ _ c.requires.1.depth c.if-site-eq-NEST_LIMIT.false c.deeper-trail.ensures c.visit.ensures (ap walked c.in_err-next.was))
 
-pub walk_element-returns-in-Done : goal.walk_element-returns-in-Done
-walk_element-returns-in-Done t c =
-    element_goes _ _ _ _ _ _ _ c.requires.1.depth c.if-before-eq-NEST_LIMIT.false c.deeper-trail.ensures c.visit.ensures c.in-Done.is c.walk_content.ensures
+pub walk_element-returns : goal.walk_element-returns
+walk_element-returns t c =
+    element_goes _ _ _ _ _ _ _ c.requires.1.depth c.if-site-eq-NEST_LIMIT.false c.deeper-trail.ensures c.visit.ensures (ap walked c.in_ok-next.was) c.walk_content.ensures

@@ -1,8 +1,9 @@
 -- Each of the four leaves the log and the counts that the visits of its part give, or 18's place. From a content down to its children a level
 -- is spent; within one level an instance, its array, its elements and their contents follow each other.
 use Rattle.map_walk.proofs.Arrays.{Arraying}
-use Prim.Native.Nat.{◌-◌, ◌+◌, ◌*◌}
+use Prim.Native.Nat.{◌+◌, ◌*◌}
 use Rattle.map_walk.proofs.Bodies.{Walking}
+use Rattle.map_walk.specs.Runs.{total_of}
 use Rattle.map_walk.proofs.+walk_array_walk_children_walk_content_walk_element.Given as goal
 
 abbrev pub decreases-walk_array : goal.decreases-walk_array
@@ -19,14 +20,8 @@ decreases-walk_element l = 4 * l.site.levels + 1
 
 abbrev pub invariant-walk_array-loop-k : goal.invariant-walk_array-loop-k
 invariant-walk_array-loop-k l =
-    Arraying l.text l.cells l.initial.log l.extent l.site.levels l.kid l.site.trail l.initial.tally l.k l.address l.tally l.log
-
-abbrev pub decreases-walk_array-loop-k : goal.decreases-walk_array-loop-k
-decreases-walk_array-loop-k l = l.count - l.k
+    Arraying l.text l.cells l.initial.log l.extent l.site.levels l.kid l.site.trail (total_of l.initial.tally) l.k l.address (total_of l.tally) l.log
 
 abbrev pub invariant-walk_children-loop-i : goal.invariant-walk_children-loop-i
 invariant-walk_children-loop-i l =
-    Walking l.text l.cells l.initial.log l.extent l.site.levels l.site.row l.alignment l.site.address l.site.trail l.initial.tally l.span.to l.i l.end l.tally l.log
-
-abbrev pub decreases-walk_children-loop-i : goal.decreases-walk_children-loop-i
-decreases-walk_children-loop-i l = l.span.to - l.i
+    Walking l.text l.cells l.initial.log l.extent l.site.levels l.site.row l.alignment l.site.address l.site.trail (total_of l.initial.tally) l.i-end l.i l.end (total_of l.tally) l.log

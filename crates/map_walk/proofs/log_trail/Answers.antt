@@ -1,4 +1,3 @@
-use Prim.Native.Nat.{◌-◌}
 use Rattle.map_walk.proofs.Leaves.{put_start, put_next, put_end}
 use borrow.Author.Rules.{rules}
 use native.Mathlib.Omega.{arith}

@@ -1,4 +1,3 @@
-use Prim.Native.Nat.{◌-◌}
 use Rattle.name_tree.proofs.Laws.{below_falls, seek_start, seek_taken, seek_free, seek_on, seek_none}
 use Rattle.name_tree.proofs.find.Goals as goal
 

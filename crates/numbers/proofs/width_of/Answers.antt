@@ -3,11 +3,11 @@ use borrow.Author.Rules.{rules}
 use Rattle.numbers.proofs.Laws.{width_wide, width_above, width_within}
 use Rattle.numbers.proofs.width_of.Goals as goal
 
-pub returns-in_default : goal.returns-in_default
-returns-in_default c = search (rules, width_wide)
+pub returns-in-Err : goal.returns-in-Err
+returns-in-Err c = search (rules, width_wide)
 
 pub returns-then-width-gt64 : goal.returns-then-width-gt64
 returns-then-width-gt64 c = search (rules, width_above)
 
-pub returns : goal.returns
-returns c = search (rules, width_within)
+pub returns-else-width-gt64 : goal.returns-else-width-gt64
+returns-else-width-gt64 c = search (rules, width_within)

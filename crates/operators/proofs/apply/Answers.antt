@@ -1,26 +1,27 @@
 -- Each of the 16 operators gives what its own function gives.
 use Rattle.operators.specs.Operators.{result_of}
+use Rattle.operators.proofs.Laws.{checked_within, checked_unless_zero, checked_at_most}
 use Rattle.operators.proofs.apply.Goals as goal
 
 pub returns-in-Times : goal.returns-in-Times
 unfolding result_of
-returns-in-Times c = rw c.in-Times.is c.times.ensures
+returns-in-Times c = rw c.in-Times.is (checked_within _ _ c.checked_mul.ensures)
 
 pub returns-in-Over : goal.returns-in-Over
 unfolding result_of
-returns-in-Over c = rw c.in-Over.is c.over.ensures
+returns-in-Over c = rw c.in-Over.is (checked_unless_zero _ _ _ c.checked_div.ensures)
 
 pub returns-in-Modulo : goal.returns-in-Modulo
 unfolding result_of
-returns-in-Modulo c = rw c.in-Modulo.is c.modulo.ensures
+returns-in-Modulo c = rw c.in-Modulo.is (checked_unless_zero _ _ _ c.checked_rem.ensures)
 
 pub returns-in-Plus : goal.returns-in-Plus
 unfolding result_of
-returns-in-Plus c = rw c.in-Plus.is c.plus.ensures
+returns-in-Plus c = rw c.in-Plus.is (checked_within _ _ c.checked_add.ensures)
 
 pub returns-in-Minus : goal.returns-in-Minus
 unfolding result_of
-returns-in-Minus c = rw c.in-Minus.is c.minus.ensures
+returns-in-Minus c = rw c.in-Minus.is (checked_at_most _ _ _ _ c.checked_sub.ensures)
 
 pub returns-in-ShiftLeft : goal.returns-in-ShiftLeft
 unfolding result_of

@@ -1,5 +1,4 @@
 use borrow.Author.Rules.{rules}
-use Prim.Native.Nat.{◌-◌}
 use Rattle.orders.proofs.Unique.{halving_start, halving_end, halved, halved_less}
 use Rattle.overlaps.proofs.bisect.Goals as goal
 

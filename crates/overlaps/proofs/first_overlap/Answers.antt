@@ -9,4 +9,4 @@ pub place_at-requires : goal.place_at-requires
 place_at-requires c = search found_few
 
 pub returns : goal.returns
-returns c = search found_some
+returns c = rw c.at.ensures (search found_some)

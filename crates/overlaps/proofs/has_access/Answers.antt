@@ -1,5 +1,4 @@
 use borrow.Author.Rules.{rules}
-use Prim.Native.Nat.{◌-◌}
 use Rattle.sizes.proofs.Laws.{ready_low, ready_within}
 use Rattle.overlaps.proofs.Access.{asking_start, asking_stop, asking_next, asking_end}
 use Rattle.overlaps.proofs.has_access.Goals as goal

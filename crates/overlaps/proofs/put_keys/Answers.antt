@@ -1,5 +1,4 @@
 use borrow.Author.Rules.{rules}
-use Prim.Native.Nat.{◌-◌}
 use Rattle.overlaps.proofs.Plots.{filling_start, filling_on, filling_end, product_fits, key_fits}
 use Rattle.overlaps.proofs.put_keys.Goals as goal
 
@@ -16,4 +15,4 @@ pub loop-i-preserved : goal.loop-i-preserved
 loop-i-preserved c = search (rules, filling_on)
 
 pub returns : goal.returns
-returns c = search filling_end
+returns c = search (rules, filling_end)

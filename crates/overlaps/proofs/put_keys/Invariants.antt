@@ -1,5 +1,4 @@
 -- Each register passed has its key.
-use Prim.Native.Nat.{◌-◌}
 use mathlib.Core.Path.{◌≡◌}
 use lib.ListN.{length}
 use Rattle.overlaps.proofs.Plots.{Filling}
@@ -7,6 +6,3 @@ use Rattle.overlaps.proofs.put_keys.Given as goal
 
 abbrev pub invariant-loop-i : goal.invariant-loop-i
 invariant-loop-i l = (length l.keys ≡ length l.initial.keys) × Filling l.log l.i l.keys
-
-abbrev pub decreases-loop-i : goal.decreases-loop-i
-decreases-loop-i l = length l.initial.keys - l.i

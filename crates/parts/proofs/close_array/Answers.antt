@@ -6,4 +6,4 @@ pub returns-then-is_mark : goal.returns-then-is_mark
 returns-then-is_mark c = search closed_ahead
 
 pub returns : goal.returns
-returns c = search closed-refused
+returns c = rw c.at.ensures (search closed-refused)

@@ -6,4 +6,4 @@ pub returns-then-is_mark : goal.returns-then-is_mark
 returns-then-is_mark c = search closed_yes
 
 pub returns : goal.returns
-returns c = search closed_no
+returns c = rw c.at.ensures (search closed_no)

@@ -2,8 +2,8 @@
 use Rattle.parts.proofs.Laws.{header_kind, header_other}
 use Rattle.parts.proofs.read_header.Goals as goal
 
-pub returns-in-IsKind : goal.returns-in-IsKind
-returns-in-IsKind c = search header_kind
+pub returns-in-Some : goal.returns-in-Some
+returns-in-Some c = search (header_kind)
 
-pub returns-in-NoKind : goal.returns-in-NoKind
-returns-in-NoKind c = search header_other
+pub returns-in-None : goal.returns-in-None
+returns-in-None c = rw c.at.ensures (search (header_other))

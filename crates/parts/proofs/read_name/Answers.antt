@@ -6,4 +6,4 @@ pub returns-then-is_name : goal.returns-then-is_name
 returns-then-is_name c = search name_yes
 
 pub returns : goal.returns
-returns c = search name_no
+returns c = rw c.at.ensures (search name_no)

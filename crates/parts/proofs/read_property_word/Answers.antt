@@ -6,4 +6,4 @@ pub returns-then-is_property : goal.returns-then-is_property
 returns-then-is_property c = search word_yes
 
 pub returns : goal.returns
-returns c = search word_no
+returns c = rw c.at.ensures (search word_no)

@@ -1,9 +1,6 @@
 use borrow.Author.Rules.{rules}
-use Rattle.player.proofs.Numbers.{run_start, run_on, run_end_lem}
+use Rattle.player.proofs.Numbers.{run_on, run_end_lem}
 use Rattle.player.proofs.put_run.Goals as goal
-
-pub loop-k-init : goal.loop-k-init
-loop-k-init c = search (rules, run_start)
 
 pub loop-k-preserved : goal.loop-k-preserved
 loop-k-preserved c = search (rules, run_on)

@@ -1,4 +1,3 @@
-use Prim.Native.Nat.{◌-◌}
 use Rattle.recall.proofs.Kept.{shelves_start, shelves_next, shelves_end}
 use Rattle.recall.proofs.clear_shelves.Goals as goal
 

@@ -5,8 +5,8 @@ use Rattle.recall.proofs.keep_at.Goals as goal
 pub returns-then-is_surely_short : goal.returns-then-is_surely_short
 returns-then-is_surely_short c = search at_short
 
-pub returns-in-Done : goal.returns-in-Done
-returns-in-Done c = search at_read
+pub returns-in-Ok : goal.returns-in-Ok
+returns-in-Ok c = search at_read
 
-pub returns-in-Refused : goal.returns-in-Refused
-returns-in-Refused c = search at_refused
+pub returns-in_default : goal.returns-in_default
+returns-in_default c = search at_refused

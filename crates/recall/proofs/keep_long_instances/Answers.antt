@@ -1,5 +1,4 @@
 use borrow.Author.Rules.{rules}
-use Prim.Native.Nat.{◌-◌}
 use Rattle.sizes.proofs.Laws.{ready_low, ready_within}
 use Rattle.recall.proofs.Kept.{left_next, rows_start, rows_end_lem}
 use Rattle.recall.proofs.keep_long_instances.Goals as goal

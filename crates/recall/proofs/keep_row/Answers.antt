@@ -1,4 +1,3 @@
-use Prim.Native.Nat.{◌-◌}
 use Rattle.recall.proofs.Kept.{left_next, cells_start, cells_end, cells_none}
 use Rattle.recall.proofs.keep_row.Goals as goal
 

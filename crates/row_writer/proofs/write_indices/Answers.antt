@@ -1,5 +1,4 @@
 use borrow.Author.Rules.{rules}
-use Prim.Native.Nat.{◌-◌}
 use Rattle.row_writer.proofs.Cells.{indices_start, indices_next, indices_end}
 use Rattle.row_writer.proofs.write_indices.Goals as goal
 

@@ -8,6 +8,3 @@ use Rattle.row_writer.proofs.write_indices.Given as goal
 
 abbrev pub invariant-loop-k : goal.invariant-loop-k
 invariant-loop-k l = (written l.registers (l.at + l.k) (indices_in l.log (l.steps + l.k) (8 - l.k)) ≡ written l.initial.registers l.at (indices_in l.log l.steps 8)) × (length l.registers ≡ length l.initial.registers) × (l.k ≤ 8)
-
-abbrev pub decreases-loop-k : goal.decreases-loop-k
-decreases-loop-k l = 8 - l.k

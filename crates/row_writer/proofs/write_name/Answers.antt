@@ -1,5 +1,4 @@
 use borrow.Author.Rules.{rules}
-use Prim.Native.Nat.{◌-◌}
 use Rattle.row_writer.proofs.Cells.{bytes_start, bytes_next, bytes_end}
 use Rattle.row_writer.proofs.write_name.Goals as goal
 

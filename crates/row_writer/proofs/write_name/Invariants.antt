@@ -8,6 +8,3 @@ use Rattle.row_writer.proofs.write_name.Given as goal
 
 abbrev pub invariant-loop-k : goal.invariant-loop-k
 invariant-loop-k l = (written l.names (l.at + l.k) (padded (32 - l.k) (drop l.k l.name)) ≡ written l.initial.names l.at (name_cell l.name)) × (length l.names ≡ length l.initial.names) × (l.k ≤ 32)
-
-abbrev pub decreases-loop-k : goal.decreases-loop-k
-decreases-loop-k l = 32 - l.k

@@ -2,8 +2,8 @@
 use Rattle.row_writer.proofs.Runs.{placed_other, placed_field}
 use Rattle.row_writer.proofs.write_placed.Goals as goal
 
-pub returns-in-Other : goal.returns-in-Other
-returns-in-Other c = search placed_other
+pub returns-in-None : goal.returns-in-None
+returns-in-None c = search placed_other
 
-pub returns-in-Field : goal.returns-in-Field
-returns-in-Field c = search placed_field
+pub returns-in-Some : goal.returns-in-Some
+returns-in-Some c = search placed_field

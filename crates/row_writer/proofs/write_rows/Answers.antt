@@ -1,6 +1,5 @@
 use native.Mathlib.Omega.{arith}
-use Prim.Native.Nat.{◌-◌}
-use Rattle.row_writer.proofs.Tables.{writing_start, writing_first, writing_low, writing_steps, writing_falls, writing_row, writing_back, writing_next, end_registers, end_paths, end_fields, end_labels}
+use Rattle.row_writer.proofs.Tables.{writing_start, writing_first, writing_low, writing_row, writing_back, writing_next, end_registers, end_paths, end_fields, end_labels}
 use Rattle.row_writer.proofs.write_rows.Goals as goal
 
 pub name_at-title-requires : goal.name_at-title-requires
@@ -28,14 +27,6 @@ overflow_sub-next c =
 pub write_register-requires : goal.write_register-requires
 write_register-requires c =
     writing_low _ _ _ _ _ _ _ _ c.loop-i.invariant c.loop-i-test.true
-
-pub overflow_add-i : goal.overflow_add-i
-overflow_add-i c =
-    record { fits = writing_steps _ _ _ _ _ _ _ _ c.loop-i.invariant c.loop-i-test.true }
-
-pub loop-i-smaller : goal.loop-i-smaller
-loop-i-smaller c =
-    writing_falls _ _ _ _ _ _ _ _ c.loop-i.invariant c.loop-i-test.true
 
 pub loop-i-preserved : goal.loop-i-preserved
 loop-i-preserved c =

@@ -9,6 +9,3 @@ use Rattle.row_writer.proofs.write_steps.Given as goal
 
 abbrev pub invariant-loop-k : goal.invariant-loop-k
 invariant-loop-k l = (written l.paths (l.at + l.k * name_width) (names_in l.text l.log (l.steps + l.k) (8 - l.k)) ≡ written l.initial.paths l.at (names_in l.text l.log l.steps 8)) × (length l.paths ≡ length l.initial.paths) × (l.k ≤ 8)
-
-abbrev pub decreases-loop-k : goal.decreases-loop-k
-decreases-loop-k l = 8 - l.k

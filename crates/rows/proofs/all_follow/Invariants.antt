@@ -6,6 +6,3 @@ use Rattle.rows.proofs.all_follow.Given as goal
 
 abbrev pub invariant-loop-k : goal.invariant-loop-k
 invariant-loop-k l = all_follow l.bytes (l.start + l.k) (l.count - l.k) ≡ all_follow l.bytes l.start l.count
-
-abbrev pub decreases-loop-k : goal.decreases-loop-k
-decreases-loop-k l = l.count - l.k

@@ -6,6 +6,3 @@ use Rattle.rows.proofs.are_field_rows.Given as goal
 
 abbrev pub invariant-loop-k : goal.invariant-loop-k
 invariant-loop-k l = are_field_rows l.fields l.labels l.width (l.first + l.k) (l.count - l.k) ≡ are_field_rows l.fields l.labels l.width l.first l.count
-
-abbrev pub decreases-loop-k : goal.decreases-loop-k
-decreases-loop-k l = l.count - l.k

@@ -6,7 +6,4 @@ use Rattle.rows.specs.Rows.{tables}
 use Rattle.rows.proofs.are_rows.Given as goal
 
 abbrev pub invariant-loop-i : goal.invariant-loop-i
-invariant-loop-i l = (are_rows (tables l.registers l.paths l.fields l.labels) l.all l.i l.first (l.count - l.i) ≡ are_rows (tables l.registers l.paths l.fields l.labels) l.all 0 0 l.count) × (l.first ≤ l.all) × (l.i ≤ l.count)
-
-abbrev pub decreases-loop-i : goal.decreases-loop-i
-decreases-loop-i l = l.count - l.i
+invariant-loop-i l = (are_rows (tables l.registers l.paths l.fields l.labels) l.all l.i l.first (l.count - l.i) ≡ are_rows (tables l.registers l.paths l.fields l.labels) l.all 0 0 l.count) × (l.first ≤ l.all)

@@ -6,6 +6,3 @@ use Rattle.rows.proofs.are_same.Given as goal
 
 abbrev pub invariant-loop-k : goal.invariant-loop-k
 invariant-loop-k l = are_same l.bytes (l.a + l.k) (l.b + l.k) (l.count - l.k) ≡ are_same l.bytes l.a l.b l.count
-
-abbrev pub decreases-loop-k : goal.decreases-loop-k
-decreases-loop-k l = l.count - l.k

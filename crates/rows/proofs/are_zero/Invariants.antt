@@ -6,6 +6,3 @@ use Rattle.rows.proofs.are_zero.Given as goal
 
 abbrev pub invariant-loop-k : goal.invariant-loop-k
 invariant-loop-k l = are_zero l.bytes (l.start + l.k) (l.count - l.k) ≡ are_zero l.bytes l.start l.count
-
-abbrev pub decreases-loop-k : goal.decreases-loop-k
-decreases-loop-k l = l.count - l.k

@@ -10,8 +10,8 @@ decreases-judge_body l = l.bodies + l.bodies + 1
 abbrev pub decreases-judge_definition : goal.decreases-judge_definition
 decreases-judge_definition l = l.bodies + l.bodies
 
-abbrev pub invariant-judge_body-loop-kind : goal.invariant-judge_body-loop-kind
-invariant-judge_body-loop-kind l = BodyGoing l.text l.initial.cells l.cells l.header l.scope l.bodies l.initial.walk l.walk
+abbrev pub invariant-judge_body-loop-cells : goal.invariant-judge_body-loop-cells
+invariant-judge_body-loop-cells l = BodyGoing l.text l.initial.cells l.cells l.header l.scope l.bodies l.initial.walk l.walk
 
-abbrev pub decreases-judge_body-loop-kind : goal.decreases-judge_body-loop-kind
-decreases-judge_body-loop-kind l = length l.text - l.walk.at
+abbrev pub decreases-judge_body-loop-cells : goal.decreases-judge_body-loop-cells
+decreases-judge_body-loop-cells l = length l.text - l.walk.at

@@ -1,13 +1,10 @@
-use Prim.Native.Nat.{◌-◌}
-use mathlib.Core.Path.{◌∙◌}
-use Rattle.rules.proofs.Loops.{file_start, file_ends, file_faults, file_goes, file_falls}
+-- The definitions are judged one after another up to the text's end, where the address map is known or missing.
+use Rattle.std.proofs.lemmas.Result.{err_from_is_err_and}
+use Rattle.rules.proofs.Loops.{step_falls, file_start, file_ends, file_faults, file_goes}
 use Rattle.rules.proofs.judge_file.Goals as goal
 
 pub loop-scope-init : goal.loop-scope-init
 loop-scope-init c = (rw c.root_walk-walk.ensures (file_start _ _ c.requires), c.root_scope-scope.ensures)
-
-pub shape_of-cells-then-is_end : goal.shape_of-cells-then-is_end
-shape_of-cells-then-is_end c = c.loop-scope.invariant.0.long
 
 pub returns-then-is_end : goal.returns-then-is_end
 returns-then-is_end c = file_ends _ _ c.loop-scope.invariant.0 c.next_token-token.ensures c.is_end.ensures c.if-is_end.true c.ruling_of.ensures
@@ -15,18 +12,15 @@ returns-then-is_end c = file_ends _ _ c.loop-scope.invariant.0 c.next_token-toke
 pub judge_definition-requires : goal.judge_definition-requires
 judge_definition-requires c = rw c.loop-scope.invariant.1 c.loop-scope.invariant.0.fits
 
-pub shape_of-cells-in-Refused : goal.shape_of-cells-in-Refused
-shape_of-cells-in-Refused c =
-    c.judge_definition.ensures.kept.long ∙ c.loop-scope.invariant.0.long
-
-pub returns-in-Refused : goal.returns-in-Refused
-returns-in-Refused c =
-    file_faults _ _ c.loop-scope.invariant.0 c.next_token-token.ensures c.is_end.ensures c.if-is_end.false (rw c.loop-scope.invariant.1 at c.judge_definition.ensures) c.in-Refused.is
+pub returns-in_err-walk : goal.returns-in_err-walk
+returns-in_err-walk c =
+    let p = err_from_is_err_and c.from_residual.result c.from_residual.ensures.1 in
+    rw (p.1, p.2)
+    (file_faults _ _ c.loop-scope.invariant.0 c.next_token-token.ensures c.is_end.ensures c.if-is_end.false (rw c.loop-scope.invariant.1 at c.in_err-walk.ensures))
 
 pub loop-scope-smaller : goal.loop-scope-smaller
-loop-scope-smaller c =
-    file_falls _ _ c.loop-scope.invariant.0 c.next_token-token.ensures c.is_end.ensures c.if-is_end.false (rw c.loop-scope.invariant.1 at c.judge_definition.ensures) c.in-Done.is
+loop-scope-smaller c = step_falls c.in_ok-walk.ensures
 
 pub loop-scope-preserved : goal.loop-scope-preserved
 loop-scope-preserved c =
-    (file_goes _ _ c.loop-scope.invariant.0 c.next_token-token.ensures c.is_end.ensures c.if-is_end.false (rw c.loop-scope.invariant.1 at c.judge_definition.ensures) c.in-Done.is, c.loop-scope.invariant.1)
+    (file_goes _ _ c.loop-scope.invariant.0 c.next_token-token.ensures c.is_end.ensures c.if-is_end.false (rw c.loop-scope.invariant.1 at c.in_ok-walk.ensures), c.loop-scope.invariant.1)

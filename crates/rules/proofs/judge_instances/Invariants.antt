@@ -4,8 +4,8 @@ use lib.ListN.{length}
 use Rattle.rules.proofs.Listing.{Going}
 use Rattle.rules.proofs.judge_instances.Given as goal
 
-abbrev pub invariant-loop-number : goal.invariant-loop-number
-invariant-loop-number l = Going l.text l.initial.cells l.cells l.scope l.row l.kind l.start l.before l.at l.held
+abbrev pub invariant-loop-listed : goal.invariant-loop-listed
+invariant-loop-listed l = Going l.text l.initial.cells l.cells l.scope l.of.row l.of.kind l.start l.before l.at l.held
 
-abbrev pub decreases-loop-number : goal.decreases-loop-number
-decreases-loop-number l = length l.text - l.at
+abbrev pub decreases-loop-listed : goal.decreases-loop-listed
+decreases-loop-listed l = length l.text - l.at

@@ -5,5 +5,5 @@ use Rattle.rules.proofs.judge_statement.Goals as goal
 pub returns-then-starts_instances : goal.returns-then-starts_instances
 returns-then-starts_instances c = search statement_use
 
-pub returns : goal.returns
-returns c = search (statement_set, setting_steps)
+pub returns-else-starts_instances : goal.returns-else-starts_instances
+returns-else-starts_instances c = search (statement_set, setting_steps)

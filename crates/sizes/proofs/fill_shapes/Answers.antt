@@ -1,6 +1,5 @@
 use borrow.Author.Rules.{rules}
-use Prim.Native.Nat.{◌-◌}
-use Rattle.sizes.proofs.Laws.{filling_start, filling_low, filling_steps, filling_falls, filling_next, filling_end}
+use Rattle.sizes.proofs.Laws.{filling_start, filling_low, filling_next, filling_end}
 use Rattle.sizes.proofs.fill_shapes.Goals as goal
 
 pub loop-row-init : goal.loop-row-init
@@ -8,12 +7,6 @@ loop-row-init c = search (rules, filling_start)
 
 pub put_shape-requires : goal.put_shape-requires
 put_shape-requires c = search (rules, filling_low)
-
-pub overflow_add-row : goal.overflow_add-row
-overflow_add-row c = search (rules, filling_steps)
-
-pub loop-row-smaller : goal.loop-row-smaller
-loop-row-smaller c = search (rules, filling_falls)
 
 pub loop-row-preserved : goal.loop-row-preserved
 loop-row-preserved c =

@@ -1,10 +1,6 @@
 -- What is left to lay, behind the true end, comes to the row's shape, cut.
-use Prim.Native.Nat.{◌-◌}
 use Rattle.sizes.proofs.Laws.{Laying}
 use Rattle.sizes.proofs.group_shape.Given as goal
 
 abbrev pub invariant-loop-i : goal.invariant-loop-i
-invariant-loop-i l = Laying l.text l.cells l.shapes l.extent l.row l.alignment l.span.to l.i l.end l.highest.0 l.access
-
-abbrev pub decreases-loop-i : goal.decreases-loop-i
-decreases-loop-i l = l.span.to - l.i
+invariant-loop-i l = Laying l.text l.cells l.shapes l.extent l.row l.alignment l.i-end l.i l.end l.size l.access

@@ -12,9 +12,9 @@ decreases-read_body l = l.bodies + l.bodies + 1
 abbrev pub decreases-read_definition : goal.decreases-read_definition
 decreases-read_definition l = l.bodies + l.bodies
 
-abbrev pub invariant-read_body-loop-word : goal.invariant-read_body-loop-word
-invariant-read_body-loop-word l =
+abbrev pub invariant-read_body-loop-token : goal.invariant-read_body-loop-token
+invariant-read_body-loop-token l =
     Rest (length l.text) l.at (λ k. answer_of (elements_at (definition_at l.bodies l.text) k l.text l.at)) (answer_of (body_at l.bodies l.text l.start))
 
-abbrev pub decreases-read_body-loop-word : goal.decreases-read_body-loop-word
-decreases-read_body-loop-word l = length l.text - l.at
+abbrev pub decreases-read_body-loop-token : goal.decreases-read_body-loop-token
+decreases-read_body-loop-token l = length l.text - l.at

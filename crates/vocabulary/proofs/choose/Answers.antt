@@ -3,7 +3,7 @@ use Rattle.vocabulary.proofs.Laws.{chosen_this, chosen_other}
 use Rattle.vocabulary.proofs.choose.Goals as goal
 
 pub returns-then-same : goal.returns-then-same
-returns-then-same c = search chosen_this
+returns-then-same g c = search chosen_this
 
-pub returns : goal.returns
-returns c = search chosen_other
+pub returns-else-same : goal.returns-else-same
+returns-else-same g c = search chosen_other

@@ -1,9 +1,0 @@
--- The index falls to 0.
-use Rattle.std.proofs.Common.{◌≤◌}
-use Rattle.access_cases.proofs.number_at.Given as goal
-
-abbrev pub invariant-loop-k : goal.invariant-loop-k
-invariant-loop-k l = l.k ≤ 8
-
-abbrev pub decreases-loop-k : goal.decreases-loop-k
-decreases-loop-k l = l.k

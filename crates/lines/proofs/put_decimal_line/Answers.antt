@@ -1,6 +1,0 @@
--- Key, decimal number and line end, poured one after another, are the line.
-use Rattle.lines.proofs.Lines.{line_pours}
-use Rattle.lines.proofs.put_decimal_line.Goals as goal
-
-pub returns : goal.returns
-returns c = search line_pours

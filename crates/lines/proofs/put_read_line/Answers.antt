@@ -1,6 +1,0 @@
--- Key, read effect and line end, poured one after another, are the line `onread=`.
-use Rattle.lines.proofs.Lines.{line_pours}
-use Rattle.lines.proofs.put_read_line.Goals as goal
-
-pub returns : goal.returns
-returns c = search line_pours

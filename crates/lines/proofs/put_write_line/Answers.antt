@@ -1,6 +1,0 @@
--- Key, write effect and line end, poured one after another, are the line `onwrite=`.
-use Rattle.lines.proofs.Lines.{line_pours}
-use Rattle.lines.proofs.put_write_line.Goals as goal
-
-pub returns : goal.returns
-returns c = search line_pours

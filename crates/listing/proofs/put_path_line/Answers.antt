@@ -1,6 +1,0 @@
--- Key, path and line end, poured one after another, are the line `reg=`.
-use Rattle.lines.proofs.Lines.{line_pours}
-use Rattle.listing.proofs.put_path_line.Goals as goal
-
-pub returns : goal.returns
-returns c = search line_pours

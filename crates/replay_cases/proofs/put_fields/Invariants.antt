@@ -1,9 +1,0 @@
--- The count of registers bounds the turns.
-use Rattle.std.proofs.Common.{◌-◌, ◌≤◌}
-use Rattle.replay_cases.proofs.put_fields.Given as goal
-
-abbrev pub invariant-loop-i : goal.invariant-loop-i
-invariant-loop-i l = l.i ≤ l.count
-
-abbrev pub decreases-loop-i : goal.decreases-loop-i
-decreases-loop-i l = l.count - l.i
