@@ -105,6 +105,7 @@ fn number_fault(kind: SuffixKind, number: Number) -> Result<(), Refusal>
     ranged_at(suffix_range(kind, number.value), number.place)
 }
 
+#[inline(always)]
 fn suffix_fault(barred: bool, kind: SuffixKind, suffix: Suffix) -> Result<(), Refusal>
     ensures { verdict result ≡ suffix_fault barred kind suffix }
 {
@@ -135,6 +136,7 @@ fn is_barred(kind: SuffixKind, field: bool, instance: Instance) -> bool
 }
 
 // The fault of one suffix of an instance.
+#[inline(always)]
 fn fault_of(
     kind: SuffixKind,
     field: bool,
@@ -147,7 +149,9 @@ fn fault_of(
 }
 
 // The first fault of an instance's suffixes, for an instance of a component of this kind.
+// Part of its callers, since the call would copy the instance.
 #[tactic(auto, unfolding(crate::specs::Suffixes::instance_fault))]
+#[inline(always)]
 pub fn instance_fault(kind: Kind, instance: Instance) -> Result<(), Refusal>
     ensures { verdict result ≡ instance_fault kind instance }
 {
